@@ -11,9 +11,9 @@ pub record Edge (i : ℕ) : Type 0 where
   pub ends : edge (i + 1) ≤ 400
   pub small : edge (i + 1) - edge i ≤ 88
 
-pub edges-rule : (i : ℕ) → i < 21 → Edge i
+pub edges_rule : (i : ℕ) → i < 21 → Edge i
 unfolding edge edges
-edges-rule i h =
+edges_rule i h =
     record {
       far = leb→le _ _ (at_each 21 (λ k. leb k (edge k)) tt i h);
       rises = ltb→lt _ _ (at_each 21 (λ k. ltb (edge k) (edge (k + 1))) tt i h);
@@ -27,6 +27,6 @@ pub record Band (table : List ℕ) (i : ℕ) : Type 0 where
   pub next : get_or table (i + 1) 0 ≡ edge (i + 1)
   pub rule : Edge i
 
-pub band-of : (table : List ℕ) (i : ℕ) → table ≡ edges → i < 21 → Band table i
+pub band_of : (table : List ℕ) (i : ℕ) → table ≡ edges → i < 21 → Band table i
 unfolding edge
-band-of table i e h = record { start = rw e; next = rw e; rule = edges-rule i h }
+band_of table i e h = record { start = rw e; next = rw e; rule = edges_rule i h }

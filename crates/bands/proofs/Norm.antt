@@ -2,9 +2,9 @@
 use mathlib.Core.Path.{refl}
 use lib.Ieee.{neg, of_bits, add, mul, div}
 use Rattle.bands.specs.Laws.{NormIs}
-use Rattle.bands.specs.Window.{window, windowBits}
-use Rattle.bands.specs.Norm.{sumSquares, wnorm}
+use Rattle.bands.specs.Window.{window, window_bits}
+use Rattle.bands.specs.Norm.{sum_squares, wnorm}
 
-pub wnorm-is : NormIs
-unfolding wnorm sumSquares window windowBits neg of_bits add mul div
-wnorm-is = refl
+pub wnorm_is : NormIs
+unfolding wnorm sum_squares window window_bits neg of_bits add mul div
+wnorm_is = refl

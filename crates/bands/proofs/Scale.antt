@@ -3,8 +3,8 @@ use mathlib.Core.Path.{refl}
 use lib.Ieee.{of_bits, div}
 use Rattle.numbers.specs.Root.{root}
 use Rattle.bands.specs.Laws.{ScaleIs}
-use Rattle.bands.specs.Dct.{dctScale}
+use Rattle.bands.specs.Dct.{dct_scale}
 
-pub scale-is : ScaleIs
-unfolding dctScale root of_bits div
-scale-is = refl
+pub scale_is : ScaleIs
+unfolding dct_scale root of_bits div
+scale_is = refl

@@ -3,7 +3,7 @@
 use Rattle.rules.proofs.Common.{ℕ, ◌+◌, ◌-◌, ◌^◌, ◌<◌, Bool, true, false, refl, eqb, leb, ltb, T}
 use lib.Dec.{leb→le, ltb→lt, eqb→eq, lt→ltb}
 use lib.Ieee.{of_bits, round}
-use Rattle.bands.specs.Window.{window, windowBits}
+use Rattle.bands.specs.Window.{window, window_bits}
 use Rattle.bands.specs.WindowRule.{count, counts, entry, squares, Rule, Claim}
 use Rattle.rules.proofs.Tests.{at_each}
 
@@ -36,16 +36,16 @@ below i = given (ltb i 480) (leb (2 ^ 82) (squares i + 2 ^ 59))
 
 module _ (i : ℕ) (h : i < 960) where
   rule : Rule i
-  unfolding counts window windowBits count of_bits
+  unfolding counts window window_bits count of_bits
   rule = record {
     mirror = eqb→eq _ _ (at_each 960 mirrored tt i h);
     positive = ltb→lt _ _ (at_each 960 positive tt i h);
     small = leb→le _ _ (at_each 960 small tt i h);
     rises = λ b. leb→le _ _ (ask (ltb i 479) _ (at_each 960 rising tt i h) (lt→ltb _ _ b));
-    near-above = λ b. leb→le _ _ (ask (ltb i 480) _ (at_each 960 above tt i h) (lt→ltb _ _ b));
-    near-below = λ b. leb→le _ _ (ask (ltb i 480) _ (at_each 960 below tt i h) (lt→ltb _ _ b));
+    near_above = λ b. leb→le _ _ (ask (ltb i 480) _ (at_each 960 above tt i h) (lt→ltb _ _ b));
+    near_below = λ b. leb→le _ _ (ask (ltb i 480) _ (at_each 960 below tt i h) (lt→ltb _ _ b));
   }
 
 pub claim : Claim
-unfolding counts window windowBits count of_bits round
+unfolding counts window window_bits count of_bits round
 claim = record { ruled = rule; exact = refl }

@@ -1,7 +1,7 @@
 -- `compute_band_corr` and `interp_band_gain` of lib.rs.
 use Rattle.rules.specs.Common.{ℕ, ◌+◌, ◌-◌, ◌*◌, List, [], ◌∷◌, map, ◌≡◌, set, pos, Float, binary32, of_int}
 use Rattle.rules.specs.Loop.{loop}
-use Rattle.rules.specs.F32.{◌⊕◌, ◌⊖◌, ◌⊗◌, ◌⊘◌, at, natAt, one, two, zeros}
+use Rattle.rules.specs.F32.{◌⊕◌, ◌⊖◌, ◌⊗◌, ◌⊘◌, at, nat_at, one, two, zeros}
 use Rattle.rules.specs.Spectrum.{re, im}
 
 -- EBAND_5MS, and its entries << FRAME_SIZE_SHIFT: band i's bins start at edge i
@@ -12,11 +12,11 @@ unfoldable pub edges : List ℕ
 edges = map (λ (e : ℕ). e * 4) eband5ms
 
 unfoldable pub edge : ℕ → ℕ
-edge i = natAt edges i
+edge i = nat_at edges i
 
 -- for j in 0..band_size, of band i
-abbrev pub inBand : (ℕ → ℕ → List Float → List Float) → ℕ → List Float → List Float
-inBand step i out = loop (edge (i + 1) - edge i) (step i) out
+abbrev pub in_band : (ℕ → ℕ → List Float → List Float) → ℕ → List Float → List Float
+in_band step i out = loop (edge (i + 1) - edge i) (step i) out
 
 -- out[i] += a
 abbrev pub added : List Float → ℕ → Float → List Float
@@ -35,24 +35,24 @@ rest i j = one ⊖ frac i j
 
 -- ---- compute_band_corr
 
-unfoldable pub binCorr : List Float → List Float → ℕ → Float
-binCorr x p k = re x k ⊗ re p k ⊕ im x k ⊗ im p k
+unfoldable pub bin_corr : List Float → List Float → ℕ → Float
+bin_corr x p k = re x k ⊗ re p k ⊕ im x k ⊗ im p k
 
-unfoldable pub corrStep : List Float → List Float → ℕ → ℕ → List Float → List Float
-corrStep x p i j out =
-    let corr = binCorr x p (edge i + j) in
+unfoldable pub corr_step : List Float → List Float → ℕ → ℕ → List Float → List Float
+corr_step x p i j out =
+    let corr = bin_corr x p (edge i + j) in
     added (added out i (rest i j ⊗ corr)) (i + 1) (frac i j ⊗ corr)
 
-unfoldable pub bandCorr : List Float → List Float → List Float
-bandCorr x p = doubled 21 (doubled 0 (loop 21 (inBand (corrStep x p)) (zeros 22)))
+unfoldable pub band_corr : List Float → List Float → List Float
+band_corr x p = doubled 21 (doubled 0 (loop 21 (in_band (corr_step x p)) (zeros 22)))
 
 -- ---- interp_band_gain
 
-unfoldable pub gainStep : List Float → ℕ → ℕ → List Float → List Float
-gainStep bands i j out = set out (edge i + j) (rest i j ⊗ at bands i ⊕ frac i j ⊗ at bands (i + 1))
+unfoldable pub gain_step : List Float → ℕ → ℕ → List Float → List Float
+gain_step bands i j out = set out (edge i + j) (rest i j ⊗ at bands i ⊕ frac i j ⊗ at bands (i + 1))
 
-unfoldable pub bandGain : List Float → List Float
-bandGain bands = loop 21 (inBand (gainStep bands)) (zeros 481)
+unfoldable pub band_gain : List Float → List Float
+band_gain bands = loop 21 (in_band (gain_step bands)) (zeros 481)
 
 -- the lengths
 pub record BandFits (out x p : ℕ) : Type 0 where

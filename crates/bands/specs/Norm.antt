@@ -3,9 +3,9 @@ use Rattle.rules.specs.Common.{List, [], ◌∷◌, Float, neg}
 use Rattle.rules.specs.F32.{◌⊕◌, ◌⊗◌, ◌⊘◌, f32, one}
 use Rattle.bands.specs.Window.{window}
 
-unfoldable pub sumSquares : Float → List Float → Float
-sumSquares sum [] = sum
-sumSquares sum (x ∷ xs) = sumSquares (sum ⊕ x ⊗ x) xs
+unfoldable pub sum_squares : Float → List Float → Float
+sum_squares sum [] = sum
+sum_squares sum (x ∷ xs) = sum_squares (sum ⊕ x ⊗ x) xs
 
 unfoldable pub wnorm : Float
-wnorm = one ⊘ sumSquares (neg (f32 0)) window
+wnorm = one ⊘ sum_squares (neg (f32 0)) window

@@ -2,7 +2,7 @@
 -- shows the claim.
 use Rattle.rules.specs.Common.{ℕ, ◌+◌, ◌-◌, ◌*◌, ◌/◌, ◌^◌, ◌≤◌, ◌<◌, true, false, List, map, ◌≡◌, Float, binary32, nan}
 use Rattle.rules.specs.Common.{inf, fin, up, down, round}
-use Rattle.rules.specs.F32.{natAt}
+use Rattle.rules.specs.F32.{nat_at}
 use Rattle.bands.specs.Window.{window}
 
 -- how many times 2^-41 a float is; 0 of what is negative or no number
@@ -17,7 +17,7 @@ unfolding window count
 counts = map count window
 
 abbrev pub entry : ℕ → ℕ
-entry i = natAt counts i
+entry i = nat_at counts i
 
 abbrev pub squares : ℕ → ℕ
 squares i = entry i * entry i + entry (479 - i) * entry (479 - i)
@@ -27,8 +27,8 @@ pub record Rule (i : ℕ) : Type 0 where
   pub positive : 0 < entry i
   pub small : entry i ≤ 2 ^ 41
   pub rises : i < 479 → entry i ≤ entry (i + 1)
-  pub near-above : i < 480 → squares i ≤ 2 ^ 82 + 2 ^ 59
-  pub near-below : i < 480 → 2 ^ 82 ≤ squares i + 2 ^ 59
+  pub near_above : i < 480 → squares i ≤ 2 ^ 82 + 2 ^ 59
+  pub near_below : i < 480 → 2 ^ 82 ≤ squares i + 2 ^ 59
 
 -- the claim: the rule holds at all 960 places, and counting loses nothing, since the float nearest to a count is the
 -- entry itself

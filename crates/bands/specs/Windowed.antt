@@ -5,11 +5,11 @@ use Rattle.rules.specs.F32.{◌⊗◌, at}
 use Rattle.bands.specs.Window.{window}
 
 -- x[i] * w[i], by any 960 numbers
-unfoldable pub windowedBy : List Float → List Float → List Float
-windowedBy w x = tab 960 (λ i. at x i ⊗ at w i)
+unfoldable pub windowed_by : List Float → List Float → List Float
+windowed_by w x = tab 960 (λ i. at x i ⊗ at w i)
 
 abbrev pub windowed : List Float → List Float
-windowed x = windowedBy window x
+windowed x = windowed_by window x
 
 -- the lengths
 pub record WindowFits (out x : ℕ) : Type 0 where

@@ -1,7 +1,7 @@
 // The DCT's 22 rows of 22 numbers, `dct_table` in `common()` of lib.rs.
 // Whoever loops over them takes them once, by `all`: each mention of a constant array fills it anew.
 ghost use Rattle.std.specs.Prelude.{◌≡◌};
-ghost use Rattle.bands.specs.DctTable.{dctTable};
+ghost use Rattle.bands.specs.DctTable.{dct_table};
 
 const DCT_TABLE: [f32; 484] = [
     0.70710677,
@@ -491,7 +491,7 @@ const DCT_TABLE: [f32; 484] = [
 ];
 
 pub fn all() -> [f32; 484]
-    ensures { result ≡ dctTable }
+    ensures { result ≡ dct_table }
 {
     DCT_TABLE
 }

@@ -6,12 +6,12 @@ ghost use Rattle.rules.specs.F32.{at, zeros};
 ghost use Rattle.rules.specs.Leaf.{Leaf, ◌leaving◌};
 ghost use Rattle.rules.specs.Loop.{loop, range};
 ghost use Rattle.rules.specs.Tab.{tab};
-ghost use Rattle.bands.specs.Bands.{edges, edge, binCorr, inBand, corrStep, bandCorr, BandFits, gainStep};
-ghost use Rattle.bands.specs.Bands.{bandGain, GainFits};
-ghost use Rattle.bands.specs.Dct.{dctScaled, dctIn, dctOf, DctFits};
+ghost use Rattle.bands.specs.Bands.{edges, edge, bin_corr, in_band, corr_step, band_corr, BandFits, gain_step};
+ghost use Rattle.bands.specs.Bands.{band_gain, GainFits};
+ghost use Rattle.bands.specs.Dct.{dct_scaled, dct_in, dct_of, DctFits};
 ghost use Rattle.bands.specs.Norm.{wnorm};
-ghost use Rattle.bands.specs.Private.{sumsAfter};
-ghost use Rattle.bands.specs.Windowed.{windowedBy, windowed, WindowFits};
+ghost use Rattle.bands.specs.Private.{sums_after};
+ghost use Rattle.bands.specs.Windowed.{windowed_by, windowed, WindowFits};
 
 mod dct_table;
 pub mod window;
@@ -40,7 +40,7 @@ fn all_edges() -> [usize; 22]
 // Bin k, with no branch: this is the innermost loop's.
 fn corr_at(x: &[f32], p: &[f32], k: usize) -> f32
     requires { (length x.now ≡ 961) × (length p.now ≡ 961) × (0 < k) × (k ≤ 480) }
-    ensures { result ≡ binCorr x.now p.now k }
+    ensures { result ≡ bin_corr x.now p.now k }
 {
     let n = 2 * k;
     x[n - 1] * p[n - 1] + x[n] * p[n]
@@ -49,7 +49,7 @@ fn corr_at(x: &[f32], p: &[f32], k: usize) -> f32
 // Bin 0, the first of band 0. It is real.
 fn add_bin_0(out: &mut [f32], x: &[f32], p: &[f32])
     requires { BandFits (length out.old) (length x.now) (length p.now) }
-    ensures { out.new ≡ corrStep x.now p.now 0 0 out.old }
+    ensures { out.new ≡ corr_step x.now p.now 0 0 out.old }
 {
     let frac = 0.0 / 4.0;
     let corr = x[0] * p[0] + 0.0 * 0.0;
@@ -62,7 +62,7 @@ fn add_bins(out: &mut [f32], table: &[usize; 22], x: &[f32], p: &[f32], i: usize
     requires band_fits { BandFits (length out.old) (length x.now) (length p.now) }
     requires table_value { (table.now ≡ edges) × (i < 21) × (0 < i + first) × (first ≤ 1) }
     ensures { out.new
-        ≡ range first (edge (i + 1) - edge i) (corrStep x.now p.now i) out.old }
+        ≡ range first (edge (i + 1) - edge i) (corr_step x.now p.now i) out.old }
 {
     let start = table[i];
     let size = table[i + 1] - start;
@@ -82,7 +82,7 @@ fn add_bins(out: &mut [f32], table: &[usize; 22], x: &[f32], p: &[f32], i: usize
 fn band_0(out: &mut [f32], table: &[usize; 22], x: &[f32], p: &[f32])
     requires band_fits { BandFits (length out.old) (length x.now) (length p.now) }
     requires table_value { table.now ≡ edges }
-    ensures { out.new ≡ loop 1 (inBand (corrStep x.now p.now)) (zeros 22) }
+    ensures { out.new ≡ loop 1 (in_band (corr_step x.now p.now)) (zeros 22) }
 {
     rules::clear(out);
     add_bin_0(out, x, p);
@@ -91,7 +91,7 @@ fn band_0(out: &mut [f32], table: &[usize; 22], x: &[f32], p: &[f32])
 
 fn compute_band_corr_core(out: &mut [f32], x: &[f32], p: &[f32])
     requires { BandFits (length out.old) (length x.now) (length p.now) }
-    ensures { out.new ≡ bandCorr x.now p.now }
+    ensures { out.new ≡ band_corr x.now p.now }
 {
     let table = all_edges();
     band_0(out, &table, x, p);
@@ -104,10 +104,10 @@ fn compute_band_corr_core(out: &mut [f32], x: &[f32], p: &[f32])
 
 // The correlation of two spectra, by bands.
 pub fn compute_band_corr(out: &mut [f32], x: &[f32], p: &[f32]) -> u32
-    ensures { Leaf (BandFits (length out.old) (length x.entry.now) (length p.now))
-        (result leaving (λ x. x.now) out.exit)
-        (0 leaving bandCorr x.entry.now p.now)
-        (5 leaving (λ x. x.now) out.entry) }
+    ensures { Leaf (BandFits (length out.old) (length x.now) (length p.now))
+        (result leaving out.new)
+        (0 leaving band_corr x.now p.now)
+        (5 leaving out.old) }
 {
     if out.len() != 22 {
         return 5;
@@ -126,7 +126,7 @@ pub fn compute_band_corr(out: &mut [f32], x: &[f32], p: &[f32]) -> u32
 fn fill_band(out: &mut [f32], table: &[usize; 22], bands: &[f32], i: usize)
     requires gain_fits { GainFits (length out.old) (length bands.now) }
     requires table_value { (table.now ≡ edges) × (i < 21) }
-    ensures { out.new ≡ inBand (gainStep bands.now) i out.old }
+    ensures { out.new ≡ in_band (gain_step bands.now) i out.old }
 {
     let start = table[i];
     let size = table[i + 1] - start;
@@ -141,7 +141,7 @@ fn fill_band(out: &mut [f32], table: &[usize; 22], bands: &[f32], i: usize)
 
 fn interp_band_gain_core(out: &mut [f32], bands: &[f32])
     requires { GainFits (length out.old) (length bands.now) }
-    ensures { out.new ≡ bandGain bands.now }
+    ensures { out.new ≡ band_gain bands.now }
 {
     let table = all_edges();
     rules::clear(out);
@@ -153,9 +153,9 @@ fn interp_band_gain_core(out: &mut [f32], bands: &[f32])
 // A gain for each of the 481 bins from those of the bands. Bins 400 to 480 have 0.
 pub fn interp_band_gain(out: &mut [f32], bands: &[f32]) -> u32
     ensures { Leaf (GainFits (length out.old) (length bands.now))
-        (result leaving (λ x. x.now) out.exit)
-        (0 leaving bandGain bands.now)
-        (5 leaving (λ x. x.now) out.entry) }
+        (result leaving out.new)
+        (0 leaving band_gain bands.now)
+        (5 leaving out.old) }
 {
     if out.len() != 481 {
         return 5;
@@ -169,8 +169,8 @@ pub fn interp_band_gain(out: &mut [f32], bands: &[f32]) -> u32
 
 // Row j of the table: each of the 22 sums gets its next product. No sum waits for another: so four are added at a time.
 fn add_row(sums: &mut [f32], table: &[f32; 484], x: &[f32], j: usize)
-    requires { (length x.now ≡ 22) × (j < 22) × (sums.old ≡ sumsAfter table.now x.now j) }
-    ensures { sums.new ≡ sumsAfter table.now x.now (j + 1) }
+    requires { (length x.now ≡ 22) × (j < 22) × (sums.old ≡ sums_after table.now x.now j) }
+    ensures { sums.new ≡ sums_after table.now x.now (j + 1) }
 {
     let factor = x[j];
     let row = j * 22;
@@ -182,7 +182,7 @@ fn add_row(sums: &mut [f32], table: &[f32; 484], x: &[f32], j: usize)
 // The 22 sums, into any places.
 fn add_rows(sums: &mut [f32], table: &[f32; 484], x: &[f32])
     requires { DctFits (length sums.old) (length x.now) }
-    ensures { sums.new ≡ sumsAfter table.now x.now 22 }
+    ensures { sums.new ≡ sums_after table.now x.now 22 }
 {
     rules::clear(sums);
     for j in 0..22 {
@@ -192,7 +192,7 @@ fn add_rows(sums: &mut [f32], table: &[f32; 484], x: &[f32])
 
 // A cast to f64 is asked to be of no NaN.
 fn dct_scaled(sum: f32) -> f32
-    ensures { result ≡ dctScaled sum }
+    ensures { result ≡ dct_scaled sum }
 {
     if sum != sum {
         return 0.0 / 0.0;
@@ -202,7 +202,7 @@ fn dct_scaled(sum: f32) -> f32
 
 fn scale_sums(sums: &mut [f32])
     requires { length sums.old ≡ 22 }
-    ensures { sums.new ≡ tab 22 (λ i. dctScaled (at sums.old i)) }
+    ensures { sums.new ≡ tab 22 (λ i. dct_scaled (at sums.old i)) }
 {
     for i in 0..22 {
         sums[i] = dct_scaled(sums[i]);
@@ -211,7 +211,7 @@ fn scale_sums(sums: &mut [f32])
 
 fn dct_core(out: &mut [f32], table: &[f32; 484], x: &[f32])
     requires { DctFits (length out.old) (length x.now) }
-    ensures { out.new ≡ dctIn table.now x.now }
+    ensures { out.new ≡ dct_in table.now x.now }
 {
     add_rows(out, table, x);
     scale_sums(out);
@@ -219,10 +219,10 @@ fn dct_core(out: &mut [f32], table: &[f32; 484], x: &[f32])
 
 // A brute-force DCT of 22 numbers.
 pub fn dct(out: &mut [f32], x: &[f32]) -> u32
-    ensures { Leaf (DctFits (length out.old) (length x.entry.now))
-        (result leaving (λ x. x.now) out.exit)
-        (0 leaving dctOf x.entry.now)
-        (5 leaving (λ x. x.now) out.entry) }
+    ensures { Leaf (DctFits (length out.old) (length x.now))
+        (result leaving out.new)
+        (0 leaving dct_of x.now)
+        (5 leaving out.old) }
 {
     if out.len() != 22 {
         return 5;
@@ -237,7 +237,7 @@ pub fn dct(out: &mut [f32], x: &[f32]) -> u32
 
 fn apply_window_core(output: &mut [f32], table: &[f32; 960], input: &[f32])
     requires { WindowFits (length output.old) (length input.now) }
-    ensures { output.new ≡ windowedBy table.now input.now }
+    ensures { output.new ≡ windowed_by table.now input.now }
 {
     for i in 0..960 {
         output[i] = input[i] * table[i];
@@ -246,9 +246,9 @@ fn apply_window_core(output: &mut [f32], table: &[f32; 960], input: &[f32])
 
 pub fn apply_window(output: &mut [f32], input: &[f32]) -> u32
     ensures { Leaf (WindowFits (length output.old) (length input.now))
-        (result leaving (λ x. x.now) output.exit)
+        (result leaving output.new)
         (0 leaving windowed input.now)
-        (5 leaving (λ x. x.now) output.entry) }
+        (5 leaving output.old) }
 {
     if output.len() != 960 {
         return 5;
@@ -263,7 +263,7 @@ pub fn apply_window(output: &mut [f32], input: &[f32]) -> u32
 
 fn apply_window_in_place_core(xs: &mut [f32], table: &[f32; 960])
     requires { length xs.old ≡ 960 }
-    ensures { xs.new ≡ windowedBy table.now xs.old }
+    ensures { xs.new ≡ windowed_by table.now xs.old }
 {
     for i in 0..960 {
         xs[i] = xs[i] * table[i];
@@ -272,9 +272,9 @@ fn apply_window_in_place_core(xs: &mut [f32], table: &[f32; 960])
 
 pub fn apply_window_in_place(xs: &mut [f32]) -> u32
     ensures { Leaf (length xs.old ≡ 960)
-        (result leaving (λ x. x.now) xs.exit)
+        (result leaving xs.new)
         (0 leaving windowed xs.old)
-        (5 leaving (λ x. x.now) xs.entry) }
+        (5 leaving xs.old) }
 {
     if xs.len() != 960 {
         return 5;

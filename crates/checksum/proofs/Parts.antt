@@ -21,8 +21,8 @@ digit (suc zero) (suc zero) h k = (omega arith, refl)
 digit (suc zero) (suc (suc y)) h k = absurd (omega arith)
 digit (suc (suc x)) y h k = absurd (omega arith)
 
-pub xor-twice : (a b : ℕ) → bit_xor (bit_xor a b) b ≡ a
-xor-twice = bin_ind (λ (n : ℕ). (b : ℕ) → bit_xor (bit_xor n b) b ≡ n) xor_self turn
+pub xor_twice : (a b : ℕ) → bit_xor (bit_xor a b) b ≡ a
+xor_twice = bin_ind (λ (n : ℕ). (b : ℕ) → bit_xor (bit_xor n b) b ≡ n) xor_self turn
   where
     turn : (n : ℕ) → ((b : ℕ) → bit_xor (bit_xor (n / 2) b) b ≡ n / 2) → (b : ℕ) → bit_xor (bit_xor n b) b ≡ n
     turn n ih b =
@@ -35,24 +35,24 @@ xor-twice = bin_ind (λ (n : ℕ). (b : ℕ) → bit_xor (bit_xor n b) b ≡ n) 
 
 -- ---- the register goes on
 
-pub crc-append : (c : ℕ) (xs ys : List ℕ) → crc c (xs ++ ys) ≡ crc (crc c xs) ys
+pub crc_append : (c : ℕ) (xs ys : List ℕ) → crc c (xs ++ ys) ≡ crc (crc c xs) ys
 unfolding crc
-crc-append c [] ys = refl
-crc-append c (x ∷ xs) ys = crc-append _ xs ys
+crc_append c [] ys = refl
+crc_append c (x ∷ xs) ys = crc_append _ xs ys
 
 pub in_parts : InParts
 unfolding crc32
-in_parts before xs ys = rw (xor-twice (crc (inverted before) xs) 0xFFFFFFFF, crc-append (inverted before) xs ys)
+in_parts before xs ys = rw (xor_twice (crc (inverted before) xs) 0xFFFFFFFF, crc_append (inverted before) xs ys)
 
 -- ---- a register that a loop moves on, byte by byte
 
 module _ (bytes : List ℕ) where
-  pub crc-more : (c i : ℕ) → i < length bytes
+  pub crc_more : (c i : ℕ) → i < length bytes
       → crc c (drop i bytes) ≡ crc (bit_xor (get_or table (bit_xor c (get_or bytes i 0) % 256) 0) (c / 256))
       (drop (i + 1) bytes)
   unfolding crc
-  crc-more c i h = rw (add-one, drop-cons bytes i 0 h)
+  crc_more c i h = rw (add-one, drop-cons bytes i 0 h)
 
-  pub crc-ended : (c i : ℕ) → length bytes ≤ i → crc c (drop i bytes) ≡ c
+  pub crc_ended : (c i : ℕ) → length bytes ≤ i → crc c (drop i bytes) ≡ c
   unfolding crc
-  crc-ended c i h = rw (drop_of_length-le bytes {i = i} h)
+  crc_ended c i h = rw (drop_of_length-le bytes {i = i} h)

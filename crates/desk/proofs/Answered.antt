@@ -11,41 +11,41 @@ use Rattle.rules.proofs.Common.{Float}
 use borrow.Author.Tests.{eq-eqb, eqb-true}
 use Rattle.rules.specs.Place.{get}
 use Rattle.frame.specs.Effect.{Effect, refusal}
-use Rattle.frame.specs.Reply.{passed, oneMore}
+use Rattle.frame.specs.Reply.{passed, one_more}
 use Rattle.frame.specs.declared.Reply.{Reply}
 use Rattle.frame.specs.declared.Reply.TheVariants.{Numbered, Refused}
 use Rattle.desk.specs.declared.Answer.{Answer}
 use Rattle.desk.specs.declared.Record.{Record}
 use Rattle.desk.specs.Gate.{gate, share_of}
-use Rattle.desk.specs.Desk.{Ask, call_of, replyTo, answered, onShare, admitted, desk}
+use Rattle.desk.specs.Desk.{Ask, call_of, reply_to, answered, on_share, admitted, desk}
 use Rattle.desk.specs.Laws.{placed}
 
 module _ (b : Record) (ask : Ask) where
-  pub replied-by : (reply : Reply) (P : Reply → Type 0)
-      → (passed reply ≡ true → P (Numbered (oneMore b.frame) b.heard)) → P reply
-      → P (replyTo b ask reply)
-  replied-by reply P done same = go (eqb (call_of ask) 4) (passed reply) refl
+  pub replied_by : (reply : Reply) (P : Reply → Type 0)
+      → (passed reply ≡ true → P (Numbered (one_more b.frame) b.heard)) → P reply
+      → P (reply_to b ask reply)
+  replied_by reply P done same = go (eqb (call_of ask) 4) (passed reply) refl
     where
-      go : (s t : Bool) → passed reply ≡ t → P (cond (s && t) (Numbered (oneMore b.frame) b.heard) reply)
+      go : (s t : Bool) → passed reply ≡ t → P (cond (s && t) (Numbered (one_more b.frame) b.heard) reply)
       go true true e = done e
       go true false e = same
       go false t e = same
 
-  pub refused : (n : ℕ) → replyTo b ask (Refused n) ≡ Refused n
-  refused n = replied-by (Refused n) (λ r. r ≡ Refused n) (λ e. absurd (false≢true e)) refl
+  pub refused : (n : ℕ) → reply_to b ask (Refused n) ≡ Refused n
+  refused n = replied_by (Refused n) (λ r. r ≡ Refused n) (λ e. absurd (false≢true e)) refl
 
-  pub done-alike : (reply : Reply) → passed (replyTo b ask reply) ≡ passed reply
-  done-alike reply = replied-by reply (λ r. passed r ≡ passed reply) (λ e. sym e) refl
+  pub done_alike : (reply : Reply) → passed (reply_to b ask reply) ≡ passed reply
+  done_alike reply = replied_by reply (λ r. passed r ≡ passed reply) (λ e. sym e) refl
 
   -- what comes of a share, as an outcome
   abbrev pub given_of : Effect Reply → Effect Answer
   given_of f = record { answer = answered b ask f.answer; kept = f.kept; written = f.written }
 
-  pub admitted-by : (share : List Float) (number : ℕ) (P : Effect Reply → Type 0) → P (refusal (Refused number) share)
-      → (number ≡ 0 → P (onShare b share ask)) → P (admitted b share ask number)
-  admitted-by share number P bad good = go (eqb number 0) refl
+  pub admitted_by : (share : List Float) (number : ℕ) (P : Effect Reply → Type 0) → P (refusal (Refused number) share)
+      → (number ≡ 0 → P (on_share b share ask)) → P (admitted b share ask number)
+  admitted_by share number P bad good = go (eqb number 0) refl
     where
-      go : (t : Bool) → eqb number 0 ≡ t → P (cond t (onShare b share ask) (refusal (Refused number) share))
+      go : (t : Bool) → eqb number 0 ≡ t → P (cond t (on_share b share ask) (refusal (Refused number) share))
       go true e = good (eqb-true number 0 e)
       go false e = bad
 
@@ -56,21 +56,21 @@ module _ (b : Record) (ask : Ask) where
     abbrev number : ℕ
     number = gate n side b (length store) (call_of ask)
 
-    pub let-in : gate n side b (length store) (call_of ask) ≡ 0
-        → desk n side b store ask ≡ placed side store (given_of (onShare b (get (share_of side) store) ask))
+    pub let_in : gate n side b (length store) (call_of ask) ≡ 0
+        → desk n side b store ask ≡ placed side store (given_of (on_share b (get (share_of side) store) ask))
     unfolding desk
-    let-in e = rw (eq-eqb number 0 e)
+    let_in e = rw (eq-eqb number 0 e)
 
     module _ (p : passed (desk n side b store ask).answer.reply ≡ true) where
       done : passed (admitted b share ask number).answer ≡ true
       unfolding desk
-      done = sym (done-alike (admitted b share ask number).answer) ∙ p
+      done = sym (done_alike (admitted b share ask number).answer) ∙ p
 
-      pub was-let-in : gate n side b (length store) (call_of ask) ≡ 0
-      was-let-in = admitted-by share number (λ f. passed f.answer ≡ true → number ≡ 0) (λ e. absurd (false≢true e))
+      pub was_let_in : gate n side b (length store) (call_of ask) ≡ 0
+      was_let_in = admitted_by share number (λ f. passed f.answer ≡ true → number ≡ 0) (λ e. absurd (false≢true e))
           (λ z _. z) done
 
-      pub on-share : passed (onShare b (get (share_of side) store) ask).answer ≡ true
-      on-share =
-          admitted-by share number (λ f. passed f.answer ≡ true → passed (onShare b share ask).answer ≡ true)
+      pub on_share_lem : passed (on_share b (get (share_of side) store) ask).answer ≡ true
+      on_share_lem =
+          admitted_by share number (λ f. passed f.answer ≡ true → passed (on_share b share ask).answer ≡ true)
           (λ e. absurd (false≢true e)) (λ _ e. e) done

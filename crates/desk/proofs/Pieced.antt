@@ -10,41 +10,41 @@ use Rattle.frame.specs.declared.Reply.{Reply}
 use Rattle.frame.specs.declared.Way.{Way}
 use Rattle.pieces.specs.Pieces.{piece, resume}
 use Rattle.pieces.proofs.Accepted.{Piece, Resume}
-use Rattle.pieces.proofs.Cases.{piece-by, resume-by}
+use Rattle.pieces.proofs.Cases.{piece_by, resume_by}
 
 module _ (share : List Float) where
-  pub piece-fitted : (way : Way) (waiting : ℕ) (samples : List Float) (out sums : ℕ)
+  pub piece_fitted : (way : Way) (waiting : ℕ) (samples : List Float) (out sums : ℕ)
       → passed (piece share way waiting samples out sums).answer ≡ true
       → Piece share waiting samples out sums
-  piece-fitted way waiting samples out sums =
-      piece-by share (λ o. passed o.answer ≡ true → Piece share waiting samples out sums)
+  piece_fitted way waiting samples out sums =
+      piece_by share (λ o. passed o.answer ≡ true → Piece share waiting samples out sums)
       (λ n e. absurd (false≢true e)) way waiting samples out sums (λ k _. k)
 
-  pub piece-told : (way : Way) (waiting : ℕ) (samples : List Float) (out sums : ℕ) {reply : Reply}
+  pub piece_told : (way : Way) (waiting : ℕ) (samples : List Float) (out sums : ℕ) {reply : Reply}
       → reply ≡ (piece share way waiting samples out sums).answer → passed reply ≡ true
       → (waiting ≤ 479) × (length samples ≤ 4096)
-  piece-told way waiting samples out sums e p = let f = piece-fitted way waiting samples out sums
+  piece_told way waiting samples out sums e p = let f = piece_fitted way waiting samples out sums
       (ap passed (sym e) ∙ p) in (f.waits, f.few)
 
   module _ (hearing : Hearing) (noted progress : ℕ) (samples logs : List Float) (model : List ℕ) where
-    pub resume-fitted : (out sums : ℕ)
+    pub resume_fitted : (out sums : ℕ)
         → passed (resume share hearing noted progress samples logs model out sums).answer ≡ true
         → Resume share hearing noted progress samples logs model out sums
-    resume-fitted out sums =
-        resume-by share (λ o. passed o.answer ≡ true
+    resume_fitted out sums =
+        resume_by share (λ o. passed o.answer ≡ true
         → Resume share hearing noted progress samples logs model out sums) (λ n e. absurd (false≢true e))
         hearing noted progress samples logs model out sums (λ n l _ e. absurd (false≢true e)) (λ k _. k)
 
-    pub resume-told : (out sums : ℕ) {reply : Reply}
+    pub resume_told : (out sums : ℕ) {reply : Reply}
         → reply ≡ (resume share hearing noted progress samples logs model out sums).answer → passed reply ≡ true
         → (progress ≤ length samples) × (length samples ≤ 4096)
-    resume-told out sums e p =
-        let f = resume-fitted out sums (ap passed (sym e) ∙ p) in
+    resume_told out sums e p =
+        let f = resume_fitted out sums (ap passed (sym e) ∙ p) in
         (omega (arith, f.within, f.same), omega (arith, f.few, f.same))
 
-    pub resume-no-out : (sums : ℕ)
+    pub resume_no_out : (sums : ℕ)
         → passed (resume share hearing noted progress samples logs model 0 sums).answer ≡ false
-    resume-no-out sums =
-        resume-by share (λ o. passed o.answer ≡ false) (λ n. refl) hearing noted progress samples logs model 0 sums
+    resume_no_out sums =
+        resume_by share (λ o. passed o.answer ≡ false) (λ n. refl) hearing noted progress samples logs model 0 sums
         (λ n l _. refl)
         (λ k. absurd (omega (arith, k.room, k.begun, k.within, k.same)))

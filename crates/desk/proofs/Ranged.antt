@@ -18,19 +18,19 @@ use Rattle.model.specs.declared.Reading.{Reading}
 use Rattle.model.specs.declared.Reading.TheVariants.{Good, Refused as Unread}
 use Rattle.model.proofs.Shapes.{shaped}
 use Rattle.frame.specs.Share.{SHARE}
-use Rattle.frame.specs.Reply.{passed, isHeard}
+use Rattle.frame.specs.Reply.{passed, is_heard}
 use Rattle.frame.specs.declared.Reply.{Reply}
 use Rattle.frame.specs.declared.Reply.TheVariants.{Done}
 use Rattle.frame.specs.declared.Way.{Way}
 use Rattle.desk.specs.declared.Record.{Record}
-use Rattle.desk.specs.Gate.{idle, wayNumber, allZero, inCounts, resting, underWay, in_pieces, in_range, notOpening}
+use Rattle.desk.specs.Gate.{idle, way_number, all_zero, in_counts, resting, under_way, in_pieces, in_range, not_opening}
 use Rattle.desk.specs.Gate.{gate, share_of}
-use Rattle.desk.specs.Desk.{Ask, opening, call1, call2, call2Own, call3, call4, firstHalf, secondHalf, piece}
-use Rattle.desk.specs.Desk.{resume, call_of, closed, recordOf, holding, nextDue, nextIndex, advanced, numbered}
-use Rattle.desk.specs.Desk.{carried, started, recorded, onShare, opened, desk}
+use Rattle.desk.specs.Desk.{Ask, opening, call1, call2, call2_own, call3, call4, first_half, second_half, piece}
+use Rattle.desk.specs.Desk.{resume, call_of, closed, record_of, holding, next_due, next_index, advanced, numbered}
+use Rattle.desk.specs.Desk.{carried, started, recorded, on_share, opened, desk}
 use Rattle.desk.specs.Laws.{RangeKept, Opens}
-use Rattle.desk.proofs.Answered.{let-in, was-let-in, on-share}
-use Rattle.desk.proofs.Pieced.{piece-fitted, resume-fitted}
+use Rattle.desk.proofs.Answered.{let_in, was_let_in, on_share_lem}
+use Rattle.desk.proofs.Pieced.{piece_fitted, resume_fitted}
 use Rattle.desk.proofs.Turned.{none, through}
 
 either : (x : Bool) (a b : Bool) → (x ≡ true → a ≡ true) → (x ≡ false → b ≡ true) → cond x a b ≡ true
@@ -54,7 +54,7 @@ count n e = leb-true n 127 (both (leb 1 n) (leb n 127) e).1
 
 -- what a piece leaves in the record
 pieced : (b : Record) → in_pieces b ≡ true → (b.waiting ≤ 479) × (b.piece ≤ 4096) × (b.progress ≤ 4096)
-unfolding in_pieces resting underWay
+unfolding in_pieces resting under_way
 pieced b e = go (eqb b.piece 0) refl
   where
     waits : (t : Bool) → eqb b.waiting 0 ≡ t → cond t true (leb b.waiting 479 && eqb b.due 1) ≡ true
@@ -80,13 +80,13 @@ pieced b e = go (eqb b.piece 0) refl
         (omega arith, few, omega arith)
 
 pub bounded : (b : Record) → in_range b ≡ true → Bounded b
-unfolding in_range allZero inCounts idle
+unfolding in_range all_zero in_counts idle
 bounded b e = go (eqb b.due 0) refl
   where
     go : (t : Bool) → eqb b.due 0 ≡ t → Bounded b
     go true h =
         let zero = eqb-true b.due 0 h in
-        let last : Bool = eqb b.progress 0 && eqb (wayNumber b.hearing.way) 0 in
+        let last : Bool = eqb b.progress 0 && eqb (way_number b.hearing.way) 0 in
         let pieces : Bool = idle b && last in
         let numbers : Bool = eqb b.frame 0 && (eqb b.heard 0 && pieces) in
         let i = both (eqb b.hearing.index 0)
@@ -98,7 +98,7 @@ bounded b e = go (eqb b.due 0) refl
         let d = both (eqb b.hearing.denoise 0) numbers n.1 in
         let s = both (eqb b.heard 0) pieces (both (eqb b.frame 0) (eqb b.heard 0 && pieces) d.1).1 in
         let k = both (idle b) last s.1 in
-        let p = both (eqb b.progress 0) (eqb (wayNumber b.hearing.way) 0) k.1 in
+        let p = both (eqb b.progress 0) (eqb (way_number b.hearing.way) 0) k.1 in
         let w = both (eqb b.waiting 0) (eqb b.piece 0) k.0 in
         record {
           due = omega arith;
@@ -133,15 +133,15 @@ bounded b e = go (eqb b.due 0) refl
 counted : (n : ℕ) → 1 ≤ n → n ≤ 127 → (leb 1 n && leb n 127) ≡ true
 counted n h k = rw (le-leb 1 n h, le-leb n 127 k)
 
-pub next-due : (d : ℕ) → (1 ≤ nextDue d) × (nextDue d ≤ 4)
-next-due d = go (ltb d 4) refl
+pub next_due_lem : (d : ℕ) → (1 ≤ next_due d) × (next_due d ≤ 4)
+next_due_lem d = go (ltb d 4) refl
   where
     go : (t : Bool) → ltb d 4 ≡ t → (1 ≤ cond t (d + 1) 1) × (cond t (d + 1) 1 ≤ 4)
     go true h = (omega arith, omega (arith, ltb-true d 4 h))
     go false h = (omega arith, omega arith)
 
-pub next-index : (i : ℕ) (r : Reply) → i ≤ 7 → nextIndex i r ≤ 7
-next-index i r h = go (isHeard r) (ltb i 7) refl
+pub next_index_lem : (i : ℕ) (r : Reply) → i ≤ 7 → next_index i r ≤ 7
+next_index_lem i r h = go (is_heard r) (ltb i 7) refl
   where
     go : (s t : Bool) → ltb i 7 ≡ t → cond s (cond t (i + 1) 0) i ≤ 7
     go true true k = omega (arith, ltb-true i 7 k)
@@ -149,56 +149,56 @@ next-index i r h = go (isHeard r) (ltb i 7) refl
     go false t k = h
 
 -- of an open record its index, its counts and what a piece leaves
-pub open-range : (b : Record) → (b.due ≡ 0 → ⊥) → in_range b ≡ true
-    → (b.hearing.index ≤ 7) × (inCounts b ≡ true) × (in_pieces b ≡ true)
+pub open_range : (b : Record) → (b.due ≡ 0 → ⊥) → in_range b ≡ true
+    → (b.hearing.index ≤ 7) × (in_counts b ≡ true) × (in_pieces b ≡ true)
 unfolding in_range
-open-range b ne e =
-    let rest = both (leb b.hearing.index 7) (inCounts b && in_pieces b)
+open_range b ne e =
+    let rest = both (leb b.hearing.index 7) (in_counts b && in_pieces b)
     (both (leb b.due 4) _ (rw (ne_eqb b.due 0 ne) at e)).1 in
-    let last = both (inCounts b) (in_pieces b) rest.1 in
+    let last = both (in_counts b) (in_pieces b) rest.1 in
     (leb-true b.hearing.index 7 rest.0, last.0, last.1)
 
 module _ (b : Record) (ajar : b.due ≡ 0 → ⊥) (e : in_range b ≡ true) where
   -- moved on, with an index in range
-  moved-range : (index frame heard : ℕ) → index ≤ 7 → let h = b.hearing in
-      in_range (recordOf (nextDue b.due)
+  moved_range : (index frame heard : ℕ) → index ≤ 7 → let h = b.hearing in
+      in_range (record_of (next_due b.due)
       (record { index = index; vad = h.vad; noise = h.noise; denoise = h.denoise; way = h.way }) frame heard) ≡ true
-  unfolding in_range inCounts in_pieces resting
-  moved-range index frame heard i =
-      let due = next-due b.due in
+  unfolding in_range in_counts in_pieces resting
+  moved_range index frame heard i =
+      let due = next_due_lem b.due in
       rw (
-        ne_eqb (nextDue b.due) 0 (λ z. omega arith),
-        le-leb (nextDue b.due) 4 due.1,
+        ne_eqb (next_due b.due) 0 (λ z. omega arith),
+        le-leb (next_due b.due) 4 due.1,
         le-leb index 7 i,
-        (open-range b ajar e).1,
+        (open_range b ajar e).1,
       )
 
-  numbered-range : in_range (numbered b) ≡ true
-  numbered-range = moved-range _ _ _ (open-range b ajar e).0
+  numbered_range : in_range (numbered b) ≡ true
+  numbered_range = moved_range _ _ _ (open_range b ajar e).0
 
-pub advanced-range : (b : Record) (reply : Reply) → (b.due ≡ 0 → ⊥) → in_range b ≡ true
+pub advanced_range : (b : Record) (reply : Reply) → (b.due ≡ 0 → ⊥) → in_range b ≡ true
     → in_range (advanced b reply) ≡ true
-advanced-range b reply ajar e =
-    moved-range b ajar e _ _ _ (next-index b.hearing.index reply (open-range b ajar e).0)
+advanced_range b reply ajar e =
+    moved_range b ajar e _ _ _ (next_index_lem b.hearing.index reply (open_range b ajar e).0)
 
-stays_open : (d : ℕ) → nextDue d ≡ 0 → ⊥
-stays_open d z = let due = next-due d in omega arith
+stays_open : (d : ℕ) → next_due d ≡ 0 → ⊥
+stays_open d z = let due = next_due_lem d in omega arith
 
 -- samples of a piece that are in no frame yet wait, or a frame is under way
-carried-range : (b : Record) (rest size progress : ℕ) → b.hearing.index ≤ 7 → inCounts b ≡ true → size ≤ 4096
+carried_range : (b : Record) (rest size progress : ℕ) → b.hearing.index ≤ 7 → in_counts b ≡ true → size ≤ 4096
     → 1 ≤ progress → (480 ≤ rest → progress ≤ size)
     → in_range (carried b rest size progress) ≡ true
-unfolding carried in_range inCounts in_pieces resting underWay
-carried-range b rest size progress i c few some within = go (ltb rest 480) refl
+unfolding carried in_range in_counts in_pieces resting under_way
+carried_range b rest size progress i c few some within = go (ltb rest 480) refl
   where
-    idle-or : (t : Bool) → leb rest 479 ≡ true → cond t true (leb rest 479 && true) ≡ true
-    idle-or true h = refl
-    idle-or false h = rw h
+    idle_or : (t : Bool) → leb rest 479 ≡ true → cond t true (leb rest 479 && true) ≡ true
+    idle_or true h = refl
+    idle_or false h = rw h
 
     go : (t : Bool) → ltb rest 480 ≡ t → in_range (cond t (holding 1 b rest 0 0) (holding 3 b 0 size progress)) ≡ true
     go true h =
         let less = ltb-true rest 480 h in
-        rw (le-leb b.hearing.index 7 i, c) (idle-or (eqb rest 0) (le-leb rest 479 (omega arith)))
+        rw (le-leb b.hearing.index 7 i, c) (idle_or (eqb rest 0) (le-leb rest 479 (omega arith)))
     go false h =
         let more = within (ltb-false rest 480 h) in
         rw (
@@ -210,12 +210,12 @@ carried-range b rest size progress i c few some within = go (ltb rest 480) refl
           le-leb progress size more,
         )
 
-started-range : (w : Way) (s : List ℕ) (read : Reading) (b : Record) (share : List Float) → read_of s ≡ read
+started_range : (w : Way) (s : List ℕ) (read : Reading) (b : Record) (share : List Float) → read_of s ≡ read
     → passed (opened share read).answer ≡ true
     → in_range (started b w read) ≡ true
-unfolding in_range inCounts in_pieces resting
-started-range w s (Unread n l) b share e p = absurd (false≢true p)
-started-range w s (Good m) b share e p =
+unfolding in_range in_counts in_pieces resting
+started_range w s (Unread n l) b share e p = absurd (false≢true p)
+started_range w s (Good m) b share e p =
     let l = shaped s (sym e) in
     rw (
       counted _ l.layer1.some (omega (arith, l.layer1.neurons)),
@@ -224,100 +224,100 @@ started-range w s (Good m) b share e p =
     )
 
 module _ (b : Record) (share : List Float) where
-  recorded-range : (ask : Ask) (reply : Reply) → in_range b ≡ true → (notOpening (call_of ask) && eqb b.due 0) ≡ false
-      → passed (onShare b share ask).answer ≡ true → in_range (recorded b ask reply) ≡ true
-  recorded-range (opening w m) reply r o p = started-range w m (read_of m) b share refl p
-  recorded-range (call1 x w) reply r o p = advanced-range b reply (eqb-false b.due 0 o) r
-  recorded-range (call2 x l w s) reply r o p = advanced-range b reply (eqb-false b.due 0 o) r
-  recorded-range (call2Own x w s) reply r o p = advanced-range b reply (eqb-false b.due 0 o) r
-  recorded-range (call3 x l m k) reply r o p = advanced-range b reply (eqb-false b.due 0 o) r
-  recorded-range (call4 x k) reply r o p = numbered-range b (eqb-false b.due 0 o) r
-  recorded-range (firstHalf x s) reply r o p =
-      advanced-range (advanced b reply) reply (stays_open b.due) (advanced-range b reply (eqb-false b.due 0 o) r)
-  recorded-range (secondHalf l m k) reply r o p =
-      numbered-range (advanced b reply) (stays_open b.due) (advanced-range b reply (eqb-false b.due 0 o) r)
-  recorded-range (piece x k s) reply r o p =
-      let ajar = open-range b (eqb-false b.due 0 o) r in
-      let f = piece-fitted share b.hearing.way b.waiting x k s p in
-      carried-range b (b.waiting + length x) (length x) (480 - b.waiting) ajar.0 ajar.1 f.few
+  recorded_range : (ask : Ask) (reply : Reply) → in_range b ≡ true → (not_opening (call_of ask) && eqb b.due 0) ≡ false
+      → passed (on_share b share ask).answer ≡ true → in_range (recorded b ask reply) ≡ true
+  recorded_range (opening w m) reply r o p = started_range w m (read_of m) b share refl p
+  recorded_range (call1 x w) reply r o p = advanced_range b reply (eqb-false b.due 0 o) r
+  recorded_range (call2 x l w s) reply r o p = advanced_range b reply (eqb-false b.due 0 o) r
+  recorded_range (call2_own x w s) reply r o p = advanced_range b reply (eqb-false b.due 0 o) r
+  recorded_range (call3 x l m k) reply r o p = advanced_range b reply (eqb-false b.due 0 o) r
+  recorded_range (call4 x k) reply r o p = numbered_range b (eqb-false b.due 0 o) r
+  recorded_range (first_half x s) reply r o p =
+      advanced_range (advanced b reply) reply (stays_open b.due) (advanced_range b reply (eqb-false b.due 0 o) r)
+  recorded_range (second_half l m k) reply r o p =
+      numbered_range (advanced b reply) (stays_open b.due) (advanced_range b reply (eqb-false b.due 0 o) r)
+  recorded_range (piece x k s) reply r o p =
+      let ajar = open_range b (eqb-false b.due 0 o) r in
+      let f = piece_fitted share b.hearing.way b.waiting x k s p in
+      carried_range b (b.waiting + length x) (length x) (480 - b.waiting) ajar.0 ajar.1 f.few
       (omega (arith, f.waits)) (λ h. omega (arith, f.waits))
-  recorded-range (resume x l m k s) reply r o p =
-      let first = advanced-range b reply (eqb-false b.due 0 o) r in
-      let ajar = open-range (numbered (advanced b reply)) (stays_open (nextDue b.due))
-      (numbered-range (advanced b reply) (stays_open b.due) first) in
-      let f = resume-fitted share b.hearing b.piece b.progress x l m k s p in
-      carried-range (numbered (advanced b reply)) (length x - b.progress) (length x) (b.progress + 480) ajar.0
+  recorded_range (resume x l m k s) reply r o p =
+      let first = advanced_range b reply (eqb-false b.due 0 o) r in
+      let ajar = open_range (numbered (advanced b reply)) (stays_open (next_due b.due))
+      (numbered_range (advanced b reply) (stays_open b.due) first) in
+      let f = resume_fitted share b.hearing b.piece b.progress x l m k s p in
+      carried_range (numbered (advanced b reply)) (length x - b.progress) (length x) (b.progress + 480) ajar.0
       ajar.1 (omega (arith, f.same, f.few)) (omega arith) (λ h. omega (arith, f.same, f.within))
 
-pub range-kept : RangeKept
-range-kept n side b store ask p =
-    let e = was-let-in b ask n side store p in
+pub range_kept : RangeKept
+range_kept n side b store ask p =
+    let e = was_let_in b ask n side store p in
     let clear = none n side b (length store) (call_of ask) e in
     let r = not-false (in_range b) clear.1.1.0 in
     let share = get (share_of side) store in
-    let q = on-share b ask n side store p in (
+    let q = on_share_lem b ask n side store p in (
       r,
-      rw (let-in b ask n side store e, q)
-          (recorded-range b share ask (onShare b share ask).answer r clear.1.1.1.0 q),
+      rw (let_in b ask n side store e, q)
+          (recorded_range b share ask (on_share b share ask).answer r clear.1.1.1.0 q),
     )
 
 -- a call that is done is on one of the benches
 pub seated : (n side : ℕ) (b : Record) (store : List Float) (ask : Ask)
     → passed (desk n side b store ask).answer.reply ≡ true → side < n
-seated n side b store ask p = (through n side b (length store) (call_of ask) (was-let-in b ask n side store p)).0
+seated n side b store ask p = (through n side b (length store) (call_of ask) (was_let_in b ask n side store p)).0
 
 -- ---- a call that is done leaves its side open
 
-carried-open : (b : Record) (rest size progress : ℕ) → (carried b rest size progress).due ≡ 0 → ⊥
+carried_open : (b : Record) (rest size progress : ℕ) → (carried b rest size progress).due ≡ 0 → ⊥
 unfolding carried
-carried-open b rest size progress = go (ltb rest 480)
+carried_open b rest size progress = go (ltb rest 480)
   where
     go : (t : Bool) → (cond t (holding 1 b rest 0 0) (holding 3 b 0 size progress)).due ≡ 0 → ⊥
     go true z = absurd (omega arith)
     go false z = absurd (omega arith)
 
-started-open : (b : Record) (share : List Float) (w : Way) (read : Reading) → passed (opened share read).answer ≡ true
+started_open : (b : Record) (share : List Float) (w : Way) (read : Reading) → passed (opened share read).answer ≡ true
     → (started b w read).due ≡ 0 → ⊥
-started-open b share w (Good m) p z = absurd (omega arith)
-started-open b share w (Unread n l) p z = absurd (false≢true p)
+started_open b share w (Good m) p z = absurd (omega arith)
+started_open b share w (Unread n l) p z = absurd (false≢true p)
 
-recorded-open : (b : Record) (share : List Float) (ask : Ask) (reply : Reply)
-    → passed (onShare b share ask).answer ≡ true → (recorded b ask reply).due ≡ 0 → ⊥
-recorded-open b share (opening w m) reply p = started-open b share w (read_of m) p
-recorded-open b share (call1 x w) reply p = stays_open b.due
-recorded-open b share (call2 x l w s) reply p = stays_open b.due
-recorded-open b share (call2Own x w s) reply p = stays_open b.due
-recorded-open b share (call3 x l m k) reply p = stays_open b.due
-recorded-open b share (call4 x k) reply p = stays_open b.due
-recorded-open b share (firstHalf x s) reply p = stays_open (nextDue b.due)
-recorded-open b share (secondHalf l m k) reply p = stays_open (nextDue b.due)
-recorded-open b share (piece x k s) reply p = carried-open b _ _ _
-recorded-open b share (resume x l m k s) reply p = carried-open (numbered (advanced b reply)) _ _ _
+recorded_open : (b : Record) (share : List Float) (ask : Ask) (reply : Reply)
+    → passed (on_share b share ask).answer ≡ true → (recorded b ask reply).due ≡ 0 → ⊥
+recorded_open b share (opening w m) reply p = started_open b share w (read_of m) p
+recorded_open b share (call1 x w) reply p = stays_open b.due
+recorded_open b share (call2 x l w s) reply p = stays_open b.due
+recorded_open b share (call2_own x w s) reply p = stays_open b.due
+recorded_open b share (call3 x l m k) reply p = stays_open b.due
+recorded_open b share (call4 x k) reply p = stays_open b.due
+recorded_open b share (first_half x s) reply p = stays_open (next_due b.due)
+recorded_open b share (second_half l m k) reply p = stays_open (next_due b.due)
+recorded_open b share (piece x k s) reply p = carried_open b _ _ _
+recorded_open b share (resume x l m k s) reply p = carried_open (numbered (advanced b reply)) _ _ _
 
 pub left_open : (n side : ℕ) (b : Record) (store : List Float) (ask : Ask)
     → passed (desk n side b store ask).answer.reply ≡ true
     → (desk n side b store ask).answer.rec.due ≡ 0 → ⊥
 left_open n side b store ask p =
     let share = get (share_of side) store in
-    let q = on-share b ask n side store p in
-    rw (let-in b ask n side store (was-let-in b ask n side store p), q)
-    (recorded-open b share ask (onShare b share ask).answer q)
+    let q = on_share_lem b ask n side store p in
+    rw (let_in b ask n side store (was_let_in b ask n side store p), q)
+    (recorded_open b share ask (on_share b share ask).answer q)
 
 -- ---- an opening gets through
 
-closed-range : in_range closed ≡ true
-unfolding in_range allZero idle
-closed-range = refl
+closed_range : in_range closed ≡ true
+unfolding in_range all_zero idle
+closed_range = refl
 
-let-open : (n side : ℕ) (b : Record) (len : ℕ) → side < n → len ≡ n * SHARE → in_range b ≡ true → gate n side b len 0 ≡ 0
+let_open : (n side : ℕ) (b : Record) (len : ℕ) → side < n → len ≡ n * SHARE → in_range b ≡ true → gate n side b len 0 ≡ 0
 unfolding gate
-let-open n side b len h l r = rw (lt-ltb side n h, eq-eqb len (n * SHARE) l, r)
+let_open n side b len h l r = rw (lt-ltb side n h, eq-eqb len (n * SHARE) l, r)
 
-done-open : (n side : ℕ) (b : Record) (store : List Float) (w : Way) (s : List ℕ) (m : Model) → side < n
+done_open : (n side : ℕ) (b : Record) (store : List Float) (w : Way) (s : List ℕ) (m : Model) → side < n
     → length store ≡ n * SHARE → in_range b ≡ true
     → read_of s ≡ Good m → (desk n side b store (opening w s)).answer.reply ≡ Done
 unfolding desk
-done-open n side b store w s m h l r e = rw (let-open n side b (length store) h l r, e)
+done_open n side b store w s m h l r e = rw (let_open n side b (length store) h l r, e)
 
 pub opens : Opens
-opens = (closed-range, done-open)
+opens = (closed_range, done_open)

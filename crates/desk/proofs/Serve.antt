@@ -13,7 +13,7 @@ use borrow.Author.Tests.{eq-eqb, ne_eqb, not-true, not-false}
 use Rattle.rules.specs.F32.{f32, zeros}
 use Rattle.rules.specs.Place.{Place, get, put}
 use Rattle.frame.specs.Written.{onto}
-use Rattle.rules.proofs.Places.{put-get, put_in, get-get, length-get}
+use Rattle.rules.proofs.Places.{put_get, put_in, get_get, length_get}
 use Rattle.model.specs.Model.{read_of}
 use Rattle.model.specs.declared.Reading.{Reading}
 use Rattle.model.specs.declared.Reading.TheVariants.{Good, Refused as Unread}
@@ -22,12 +22,12 @@ use Rattle.frame.specs.Effect.{Effect, Worked}
 use Rattle.frame.specs.Reply.{passed}
 use Rattle.frame.specs.declared.Reply.{Reply}
 use Rattle.frame.specs.declared.Way.{Way}
-use Rattle.pieces.specs.Pieces.{framePart, inPart}
+use Rattle.pieces.specs.Pieces.{frame_part, in_part}
 use Rattle.desk.specs.declared.Record.{Record}
 use Rattle.desk.specs.declared.Answer.{Answer}
 use Rattle.desk.specs.Gate.{gate, share_of}
-use Rattle.desk.specs.Desk.{Ask, opening, call_of, started, answered, opened, onShare, desk}
-use Rattle.desk.specs.Private.{turnedAway, opened_of}
+use Rattle.desk.specs.Desk.{Ask, opening, call_of, started, answered, opened, on_share, desk}
+use Rattle.desk.specs.Private.{turned_away, opened_of}
 use Rattle.desk.proofs.Answered.{refused}
 use Rattle.desk.proofs.Turned.{through}
 
@@ -40,26 +40,26 @@ abbrev pub Lies : ℕ → ℕ → ℕ → ℕ → Type 0
 Lies side start part end =
     (start ≡ (share_of side).at) × (part ≡ (share_of side).at + PART) × (end ≡ (share_of side).at + SHARE)
 
-lent-share : (side start part end : ℕ) → Lies side start part end → lent start end ≡ share_of side
-lent-share side start part end e = rw (e.0, e.2, add-sub_cancel_left)
+lent_share : (side start part end : ℕ) → Lies side start part end → lent start end ≡ share_of side
+lent_share side start part end e = rw (e.0, e.2, add-sub_cancel_left)
 
 -- a frame's part, as a place of the store
 abbrev part_of : ℕ → Place
 part_of side = record { at = (share_of side).at; size = PART }
 
-lent-part : (side start part end : ℕ) → Lies side start part end → lent start part ≡ part_of side
-lent-part side start part end e = rw (e.0, e.1, add-sub_cancel_left)
+lent_part : (side start part end : ℕ) → Lies side start part end → lent start part ≡ part_of side
+lent_part side start part end e = rw (e.0, e.1, add-sub_cancel_left)
 
 module _ (benches side : ℕ) (b : Record) (store : List Float) (held : List (List Float)) (ask : Ask) (n : ℕ)
     (r : Answer)
     (e : n ≡ gate benches side b (length store) (call_of ask)) where
-  pub turned-away : (n ≡ 0 → ⊥) → r ≡ turnedAway b n → Worked (desk benches side b store ask) r store held held
+  pub turned_away_lem : (n ≡ 0 → ⊥) → r ≡ turned_away b n → Worked (desk benches side b store ask) r store held held
   unfolding desk
-  turned-away h a =
+  turned_away_lem h a =
       rw (← e, ne_eqb n 0 h)
       (record {
         answers = a ∙ ap (λ (x : Reply). record { reply = x; rec = b }) (sym (refused b ask n));
-        keeps = sym (put-get (share_of side) store);
+        keeps = sym (put_get (share_of side) store);
         writes = refl;
       })
 
@@ -67,7 +67,7 @@ module _ (benches side : ℕ) (b : Record) (store : List Float) (held : List (Li
   share = get (share_of side) store
 
   past : {reply : Reply} {new : List Float} {out : List (List Float)} → n ≡ 0
-      → Worked (onShare b share ask) reply new held out → r ≡ answered b ask reply
+      → Worked (on_share b share ask) reply new held out → r ≡ answered b ask reply
       → Worked (desk benches side b store ask) r (put (share_of side) store new) held out
   unfolding desk
   past z w a =
@@ -80,22 +80,22 @@ module _ (benches side : ℕ) (b : Record) (store : List Float) (held : List (Li
 
   module _ {start part end : ℕ} {reply : Reply} {new : List Float} {out : List (List Float)} (z : n ≡ 0)
       (lies : n ≡ 0 → Lies side start part end) where
-    pub served : Worked (onShare b (get (lent start end) store) ask) reply new held out → r ≡ answered b ask reply
+    pub served : Worked (on_share b (get (lent start end) store) ask) reply new held out → r ≡ answered b ask reply
         → Worked (desk benches side b store ask) r (put (lent start end) store new) held out
-    served w a = let same = lent-share side start part end (lies z) in rw same (past z (rw same at w) a)
+    served w a = let same = lent_share side start part end (lies z) in rw same (past z (rw same at w) a)
 
     -- f is what the call makes of the part that it is lent
     pub framed : {f : Effect Reply} → Worked f reply new held out
-        → (get framePart share ≡ get (lent start part) store → onShare b share ask ≡ inPart share f)
+        → (get frame_part share ≡ get (lent start part) store → on_share b share ask ≡ in_part share f)
         → r ≡ answered b ask reply → Worked (desk benches side b store ask) r (put (lent start part) store new) held out
     framed w is a =
         let t = through benches side b (length store) (call_of ask) (sym e ∙ z) in
-        let inside : get framePart share ≡ get (part_of side) store =
-        rw add-zero at (get-get (share_of side) framePart store (omega arith) (omega arith)) in
-        let same = lent-part side start part end (lies z) in
+        let inside : get frame_part share ≡ get (part_of side) store =
+        rw add-zero at (get_get (share_of side) frame_part store (omega arith) (omega arith)) in
+        let same = lent_part side start part end (lies z) in
         rw (same, ← put_in (share_of side) PART store new (omega arith) (omega arith))
         (past {reply = reply} z (rw (is (inside ∙ ap (λ (p : Place). get p store) (sym same)))
-        (record { answers = w.answers; keeps = ap (put framePart share) w.keeps; writes = w.writes })) a)
+        (record { answers = w.answers; keeps = ap (put frame_part share) w.keeps; writes = w.writes })) a)
 
 -- what an opening makes of a model that is refused, and of one that reads
 kept : (read : Reading) (b : Record) (w : Way) (share : List Float) → passed (opened_of b w read).reply ≡ false
@@ -131,9 +131,9 @@ module _ (benches side : ℕ) (b : Record) (store : List Float) (w : Way) (m : L
     (e : n ≡ gate benches side b (length store) 0) (z : n ≡ 0) (d : read ≡ read_of m) (a : r ≡ opened_of b w read)
     (q : p ≡ passed r.reply) where
   -- with the share as it was left
-  left-with : (new : List Float) → new ≡ (opened (get (share_of side) store) (read_of m)).kept
+  left_with : (new : List Float) → new ≡ (opened (get (share_of side) store) (read_of m)).kept
       → Worked (desk benches side b store (opening w m)) r (put (share_of side) store new) [] []
-  left-with new f =
+  left_with new f =
       let share = get (share_of side) store in
       past benches side b store [] (opening w m) n r e z
       (record { answers = refl; keeps = f; writes = silent (read_of m) share })
@@ -142,8 +142,8 @@ module _ (benches side : ℕ) (b : Record) (store : List Float) (w : Way) (m : L
   pub misread : not p ≡ true → Worked (desk benches side b store (opening w m)) r store [] []
   misread h =
       let no : passed (opened_of b w (read_of m)).reply ≡ false = rw (← d, ← a, ← q) (not-true p h) in
-      rw (put-get (share_of side) store) at
-      (left-with (get (share_of side) store) (sym (kept (read_of m) b w (get (share_of side) store) no)))
+      rw (put_get (share_of side) store) at
+      (left_with (get (share_of side) store) (sym (kept (read_of m) b w (get (share_of side) store) no)))
 
   pub wiped : (start part end : ℕ) (new : List Float) → not p ≡ false → (n ≡ 0 → Lies side start part end)
       → new ≡ zeros (length (get (lent start end) store))
@@ -151,7 +151,7 @@ module _ (benches side : ℕ) (b : Record) (store : List Float) (w : Way) (m : L
   wiped start part end new h place f =
       let yes : passed (opened_of b w (read_of m)).reply ≡ true = rw (← d, ← a, ← q) (not-false p h) in
       let t = through benches side b (length store) 0 (sym e ∙ z) in
-      let all = length-get (share_of side) store (omega arith) in
-      let same = lent-share side start part end (place z) in
+      let all = length_get (share_of side) store (omega arith) in
+      let same = lent_share side start part end (place z) in
       let f' = rw (same, all) at f in
-      rw same (left-with new (f' ∙ sym (cleared (read_of m) b w (get (share_of side) store) yes)))
+      rw same (left_with new (f' ∙ sym (cleared (read_of m) b w (get (share_of side) store) yes)))

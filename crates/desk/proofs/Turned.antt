@@ -24,12 +24,12 @@ module _ (benches side : ℕ) (b : Record) (len call : ℕ) where
         eqb-true len (benches * SHARE) (not-false (eqb len (benches * SHARE)) c.1.0),
       )
 
-  pub gate-own : side < benches → len ≡ benches * SHARE → gate benches side b len call ≡ gate 1 0 b SHARE call
+  pub gate_own : side < benches → len ≡ benches * SHARE → gate benches side b len call ≡ gate 1 0 b SHARE call
   unfolding gate
-  gate-own h l = simp (lt-ltb side benches h, eq-eqb len (benches * SHARE) l)
+  gate_own h l = simp (lt-ltb side benches h, eq-eqb len (benches * SHARE) l)
 
-  pub closed-opens : b.due ≡ 0 → gate benches side b len call ≡ 0 → call ≡ 0
-  closed-opens z e = go (eqb call 0) refl
+  pub closed_opens : b.due ≡ 0 → gate benches side b len call ≡ 0 → call ≡ 0
+  closed_opens z e = go (eqb call 0) refl
     where
       go : (t : Bool) → eqb call 0 ≡ t → call ≡ 0
       go true h = eqb-true call 0 h

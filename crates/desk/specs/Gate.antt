@@ -23,25 +23,25 @@ unfoldable pub idle : Record → Bool
 idle rec = eqb rec.waiting 0 && eqb rec.piece 0
 
 -- The number of a way: 0 for our own lag and plain sums, 1 for nnnoiseless's finder and fast transforms.
-abbrev pub wayNumber : Way → ℕ
-wayNumber Own = 0
-wayNumber Nnnoiseless = 1
+abbrev pub way_number : Way → ℕ
+way_number Own = 0
+way_number Nnnoiseless = 1
 
 -- Every number of the record but `due` is 0: the cepstral index, the GRU sizes, both frame counts, what a
 -- piece leaves, and the way.
-unfoldable pub allZero : Record → Bool
-allZero rec =
+unfoldable pub all_zero : Record → Bool
+all_zero rec =
     eqb rec.hearing.index 0
     && (eqb rec.hearing.vad 0
     && (eqb rec.hearing.noise 0 && (eqb rec.hearing.denoise 0 && (eqb rec.frame 0 && (eqb rec.heard 0
-    && (idle rec && (eqb rec.progress 0 && eqb (wayNumber rec.hearing.way) 0)))))))
+    && (idle rec && (eqb rec.progress 0 && eqb (way_number rec.hearing.way) 0)))))))
 
 -- A GRU size is 1 to 127.
-abbrev pub inCount : ℕ → Bool
-inCount n = leb 1 n && leb n 127
+abbrev pub in_count : ℕ → Bool
+in_count n = leb 1 n && leb n 127
 
-unfoldable pub inCounts : Record → Bool
-inCounts rec = inCount rec.hearing.vad && (inCount rec.hearing.noise && inCount rec.hearing.denoise)
+unfoldable pub in_counts : Record → Bool
+in_counts rec = in_count rec.hearing.vad && (in_count rec.hearing.noise && in_count rec.hearing.denoise)
 
 -- No piece is unfinished; and if samples wait, there are at most 479 and call 1 is due (request 12).
 unfoldable pub resting : Record → Bool
@@ -49,19 +49,19 @@ resting rec = eqb rec.progress 0 && cond (eqb rec.waiting 0) true (leb rec.waiti
 
 -- A piece is unfinished: call 3 is due, nothing waits, and 1 or more of the piece's samples, at most all, are
 -- in frames.
-unfoldable pub underWay : Record → Bool
-underWay rec =
+unfoldable pub under_way : Record → Bool
+under_way rec =
     leb rec.piece 4096
     && (eqb rec.due 3 && (eqb rec.waiting 0 && (leb 1 rec.progress && leb rec.progress rec.piece)))
 
 unfoldable pub in_pieces : Record → Bool
-in_pieces rec = cond (eqb rec.piece 0) (resting rec) (underWay rec)
+in_pieces rec = cond (eqb rec.piece 0) (resting rec) (under_way rec)
 
 -- A record is in range if it is closed and all zeros, or open and within its limits.
 unfoldable pub in_range : Record → Bool
 in_range rec =
-    cond (eqb rec.due 0) (allZero rec)
-    (leb rec.due 4 && (leb rec.hearing.index 7 && (inCounts rec && in_pieces rec)))
+    cond (eqb rec.due 0) (all_zero rec)
+    (leb rec.due 4 && (leb rec.hearing.index 7 && (in_counts rec && in_pieces rec)))
 
 -- The numbers of calls: an opening is 0, the calls of a frame are 1 to 4, then come a piece and a resume.
 abbrev pub PIECE : ℕ
@@ -71,13 +71,13 @@ abbrev pub RESUME : ℕ
 RESUME = 6
 
 -- Refusals 3 and 4 apply to every call but an opening.
-abbrev pub notOpening : ℕ → Bool
-notOpening call = not (eqb call 0)
+abbrev pub not_opening : ℕ → Bool
+not_opening call = not (eqb call 0)
 
 -- When a call is due: a piece when call 1 is; a resume while a piece is unfinished; a call of a frame when
 -- the record names it and nothing waits or is unfinished.
-unfoldable pub isDue : Record → ℕ → Bool
-isDue rec call =
+unfoldable pub is_due : Record → ℕ → Bool
+is_due rec call =
     cond (eqb call PIECE) (eqb rec.due 1)
     (cond (eqb call RESUME) (not (eqb rec.piece 0)) (eqb rec.due call && idle rec))
 
@@ -87,8 +87,8 @@ refusals benches side rec len call =
     1 when not (ltb side benches)
     ∷ 2 when not (eqb len (benches * SHARE))
     ∷ 2 when not (in_range rec)
-    ∷ 3 when (notOpening call && eqb rec.due 0)
-    ∷ 4 when (notOpening call && not (isDue rec call))
+    ∷ 3 when (not_opening call && eqb rec.due 0)
+    ∷ 4 when (not_opening call && not (is_due rec call))
     ∷ []
 
 -- The first refusal that applies, or 0.

@@ -3,8 +3,8 @@
 use Rattle.rules.specs.Common.{ℕ, ◌+◌, ◌*◌, ◌≤◌, ◌<◌, true, false, cond, List, ◌≡◌, length, drop, Float}
 use Rattle.std.specs.Prelude.{◌⊎◌}
 use Rattle.rules.specs.Place.{get, put}
-use Rattle.frame.specs.Written.{Written, firstIn}
-use Rattle.transforms.specs.Transform.{forwardOf}
+use Rattle.frame.specs.Written.{Written, first_in}
+use Rattle.transforms.specs.Transform.{forward_of}
 use Rattle.model.specs.Model.{read_of}
 use Rattle.model.specs.declared.Model.{Model}
 use Rattle.model.specs.declared.Reading.TheVariants.{Good}
@@ -16,11 +16,11 @@ use Rattle.frame.specs.declared.Reply.{Reply}
 use Rattle.frame.specs.declared.Reply.TheVariants.{Done, Silent, Heard, Numbered, Refused, Misread}
 use Rattle.frame.specs.declared.Way.{Way}
 use Rattle.frame.specs.declared.Way.TheVariants.{Own}
-use Rattle.halves.specs.Halves.{lookedBack}
-use Rattle.halves.specs.Ways.{forwardBy, inverseBy}
-use Rattle.pieces.specs.Pieces.{framePart, waitingIn, paddedTo}
+use Rattle.halves.specs.Halves.{looked_back}
+use Rattle.halves.specs.Ways.{forward_by, inverse_by}
+use Rattle.pieces.specs.Pieces.{frame_part, waiting_in, padded_to}
 use Rattle.desk.specs.Gate.{share_of, in_range}
-use Rattle.desk.specs.Desk.{Ask, opening, call1, call2, call2Own, call3, call4, firstHalf, secondHalf, piece}
+use Rattle.desk.specs.Desk.{Ask, opening, call1, call2, call2_own, call3, call4, first_half, second_half, piece}
 use Rattle.desk.specs.Desk.{resume, call_of, closed, desk}
 use Rattle.desk.specs.declared.Answer.{Answer}
 use Rattle.desk.specs.declared.Record.{Record}
@@ -66,23 +66,23 @@ SmallReplies = (n side : ℕ) (rec : Record) (store : List Float) (ask : Ask)
 
 -- The number of answer buffers that a call is lent. A call that is done writes to each, a refused one to
 -- none.
-abbrev pub buffersOf : Ask → ℕ
-buffersOf (opening w m) = 0
-buffersOf (call1 x w) = 1
-buffersOf (call2 x l w s) = 2
-buffersOf (call2Own x w s) = 2
-buffersOf (call3 x l m o) = 1
-buffersOf (call4 x o) = 1
-buffersOf (firstHalf x s) = 1
-buffersOf (secondHalf l m o) = 1
-buffersOf (piece x o s) = 2
-buffersOf (resume x l m o s) = 2
+abbrev pub buffers_of : Ask → ℕ
+buffers_of (opening w m) = 0
+buffers_of (call1 x w) = 1
+buffers_of (call2 x l w s) = 2
+buffers_of (call2_own x w s) = 2
+buffers_of (call3 x l m o) = 1
+buffers_of (call4 x o) = 1
+buffers_of (first_half x s) = 1
+buffers_of (second_half l m o) = 1
+buffers_of (piece x o s) = 2
+buffers_of (resume x l m o s) = 2
 
 abbrev pub Buffers : Type 0
 Buffers =
     (n side : ℕ) (rec : Record) (store : List Float) (ask : Ask)
     → let o = desk n side rec store ask in
-    length o.written ≡ cond (passed o.answer.reply) (buffersOf ask) 0
+    length o.written ≡ cond (passed o.answer.reply) (buffers_of ask) 0
 
 -- A closed record is in range. With any record in range, a side that exists, a store of the right length and
 -- a model that reads, an opening is done.
@@ -111,8 +111,8 @@ abbrev pub FirstInTurn : Type 0
 FirstInTurn =
     (n side : ℕ) (rec : Record) (store samples : List Float) (sums : ℕ)
     → let one = desk n side rec store (call1 samples 960) in
-    let two = desk n side one.answer.rec one.kept (call2Own (forwardOf (firstIn one.written)) 960 sums) in
-    let half = desk n side rec store (firstHalf samples sums) in
+    let two = desk n side one.answer.rec one.kept (call2_own (forward_of (first_in one.written)) 960 sums) in
+    let half = desk n side rec store (first_half samples sums) in
     rec.hearing.way ≡ Own → passed half.answer.reply ≡ true
     → InTurn one two half two.answer.reply (drop 1 two.written)
 
@@ -121,10 +121,10 @@ abbrev pub SecondInTurn : Type 0
 SecondInTurn =
     (n side : ℕ) (rec : Record) (store logs : List Float) (model : List ℕ) (out : ℕ)
     → let way = rec.hearing.way in
-    let spectrum = forwardBy way (lookedBack (get framePart (get (share_of side) store))) in
+    let spectrum = forward_by way (looked_back (get frame_part (get (share_of side) store))) in
     let three = desk n side rec store (call3 spectrum logs model 961) in
-    let four = desk n side three.answer.rec three.kept (call4 (inverseBy way (firstIn three.written)) out) in
-    let half = desk n side rec store (secondHalf logs model out) in
+    let four = desk n side three.answer.rec three.kept (call4 (inverse_by way (first_in three.written)) out) in
+    let half = desk n side rec store (second_half logs model out) in
     passed half.answer.reply ≡ true
     → InTurn three four half three.answer.reply four.written
     × (four.answer.reply ≡ Numbered half.answer.rec.frame half.answer.rec.heard)
@@ -182,7 +182,7 @@ OpensAnew =
 -- The places for samples that wait hold as many as the record counts, followed by zeros.
 abbrev pub ZerosBehind : ℕ → Record → List Float → Type 0
 ZerosBehind side rec store =
-    let share = get (share_of side) store in waitingIn 479 share ≡ paddedTo 479 (waitingIn rec.waiting share)
+    let share = get (share_of side) store in waiting_in 479 share ≡ padded_to 479 (waiting_in rec.waiting share)
 
 -- A record and a store that are reached by an opening of the side and any calls after it, its own and other
 -- sides'.

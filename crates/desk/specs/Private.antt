@@ -3,7 +3,7 @@ use Rattle.rules.specs.Common.{ℕ, ◌+◌, ◌-◌, ◌≤◌, cond, ◌≡◌
 use Rattle.model.specs.declared.Reading.{Reading}
 use Rattle.model.specs.declared.Reading.TheVariants.{Good, Refused as Unread}
 use Rattle.frame.specs.Share.{SHARE, PART}
-use Rattle.frame.specs.Reply.{passed, oneMore}
+use Rattle.frame.specs.Reply.{passed, one_more}
 use Rattle.frame.specs.declared.Reply.{Reply}
 use Rattle.frame.specs.declared.Reply.TheVariants.{Done, Numbered, Refused, Misread}
 use Rattle.frame.specs.declared.Way.{Way}
@@ -17,7 +17,7 @@ use Rattle.desk.specs.declared.Admission.{Admission}
 -- the share ends. The three places are in order in any case, so that slices can be taken.
 pub record Admits (benches side : ℕ) (rec : Record) (len call : ℕ) (a : Admission) : Type 0 where
   pub number : a.number ≡ gate benches side rec len call
-  pub inOrder : a.start ≤ a.part
+  pub in_order : a.start ≤ a.part
   pub within : a.part ≤ a.end
   pub inside : a.end ≤ len
   pub share : a.number ≡ 0
@@ -25,35 +25,35 @@ pub record Admits (benches side : ℕ) (rec : Record) (len call : ℕ) (a : Admi
 
 -- The answer of a call that the gate refuses; of calls 1 to 3; of call 4; of the first half; of the second
 -- half.
-abbrev pub turnedAway : Record → ℕ → Answer
-turnedAway rec number = record { reply = Refused number; rec = rec }
+abbrev pub turned_away : Record → ℕ → Answer
+turned_away rec number = record { reply = Refused number; rec = rec }
 
-abbrev pub toldOf : Record → Reply → Answer
-toldOf rec reply = record { reply = reply; rec = cond (passed reply) (advanced rec reply) rec }
+abbrev pub told_of : Record → Reply → Answer
+told_of rec reply = record { reply = reply; rec = cond (passed reply) (advanced rec reply) rec }
 
-abbrev pub toldFourth : Record → Reply → Answer
-toldFourth rec reply =
+abbrev pub told_fourth : Record → Reply → Answer
+told_fourth rec reply =
     record {
-      reply = cond (passed reply) (Numbered (oneMore rec.frame) rec.heard) reply;
+      reply = cond (passed reply) (Numbered (one_more rec.frame) rec.heard) reply;
       rec = cond (passed reply) (numbered rec) rec;
     }
 
-abbrev pub toldFirst : Record → Reply → Answer
-toldFirst rec reply = record { reply = reply; rec = cond (passed reply) (advanced (advanced rec reply) reply) rec }
+abbrev pub told_first : Record → Reply → Answer
+told_first rec reply = record { reply = reply; rec = cond (passed reply) (advanced (advanced rec reply) reply) rec }
 
-abbrev pub toldSecond : Record → Reply → Answer
-toldSecond rec reply = record { reply = reply; rec = cond (passed reply) (numbered (advanced rec reply)) rec }
+abbrev pub told_second : Record → Reply → Answer
+told_second rec reply = record { reply = reply; rec = cond (passed reply) (numbered (advanced rec reply)) rec }
 
 -- The answers of a piece and of a resume with so many samples.
-abbrev pub toldPiece : Record → ℕ → Reply → Answer
-toldPiece rec size reply =
+abbrev pub told_piece : Record → ℕ → Reply → Answer
+told_piece rec size reply =
     record {
       reply = reply;
       rec = cond (passed reply) (carried rec (rec.waiting + size) size (480 - rec.waiting)) rec;
     }
 
-abbrev pub toldResume : Record → ℕ → Reply → Answer
-toldResume rec size reply =
+abbrev pub told_resume : Record → ℕ → Reply → Answer
+told_resume rec size reply =
     record {
       reply = reply;
       rec =

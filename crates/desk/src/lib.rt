@@ -1,13 +1,13 @@
 // The desk: an opening, frame calls and pieces of dictation on one of sixteen sides of one lent store. What is refused
 // changes nothing.
 ghost use Rattle.std.specs.Prelude.{◌≡◌, ◌≤◌, true, [], ◌∷◌, length};
-ghost use Rattle.desk.specs.Gate.{BENCHES, side_of, idle, wayNumber, allZero, inCounts, resting, underWay};
-ghost use Rattle.desk.specs.Gate.{in_pieces, in_range, isDue, gate};
-ghost use Rattle.desk.specs.Desk.{opening, call1, call2, call2Own, call3, call4, firstHalf, secondHalf, piece};
-ghost use Rattle.desk.specs.Desk.{resume, recordOf, holding, nextIndex, nextHearing, nextHeard, nextDue};
+ghost use Rattle.desk.specs.Gate.{BENCHES, side_of, idle, way_number, all_zero, in_counts, resting, under_way};
+ghost use Rattle.desk.specs.Gate.{in_pieces, in_range, is_due, gate};
+ghost use Rattle.desk.specs.Desk.{opening, call1, call2, call2_own, call3, call4, first_half, second_half, piece};
+ghost use Rattle.desk.specs.Desk.{resume, record_of, holding, next_index, next_hearing, next_heard, next_due};
 ghost use Rattle.desk.specs.Desk.{numbered, carried, desk};
-ghost use Rattle.desk.specs.Private.{Admits, turnedAway, toldOf, toldFourth, toldFirst, toldSecond, toldPiece};
-ghost use Rattle.desk.specs.Private.{toldResume, opened_of};
+ghost use Rattle.desk.specs.Private.{Admits, turned_away, told_of, told_fourth, told_first, told_second, told_piece};
+ghost use Rattle.desk.specs.Private.{told_resume, opened_of};
 ghost use Rattle.frame.specs.Effect.{Worked};
 ghost use Rattle.frame.specs.Reply.{passed};
 
@@ -60,7 +60,7 @@ pub fn side_of(side: Bench) -> usize
 
 // Every record is made here: one at which nothing waits and no piece is unfinished.
 pub fn record_of(due: usize, hearing: Hearing, frame: u32, heard: u32) -> Record
-    ensures { result ≡ recordOf due hearing frame heard }
+    ensures { result ≡ record_of due hearing frame heard }
 {
     Record {
         due,
@@ -101,7 +101,7 @@ fn idle(rec: Record) -> bool
 
 // A way as a number.
 pub fn way_number(way: Way) -> u32
-    ensures { result ≡ wayNumber way }
+    ensures { result ≡ way_number way }
 {
     match way {
         Way::Own => 0,
@@ -111,7 +111,7 @@ pub fn way_number(way: Way) -> u32
 
 // Whether everything in a closed record is 0.
 fn all_zero(rec: Record) -> bool
-    ensures { result ≡ allZero rec }
+    ensures { result ≡ all_zero rec }
 {
     if rec.hearing.index != 0 {
         return false;
@@ -144,7 +144,7 @@ fn all_zero(rec: Record) -> bool
 
 // Whether the GRU counts of an open record are in range.
 fn in_counts(rec: Record) -> bool
-    ensures { result ≡ inCounts rec }
+    ensures { result ≡ in_counts rec }
 {
     if rec.hearing.vad < 1 {
         return false;
@@ -182,7 +182,7 @@ fn resting(rec: Record) -> bool
 
 // Whether a record with an unfinished piece is right so.
 fn under_way(rec: Record) -> bool
-    ensures { result ≡ underWay rec }
+    ensures { result ≡ under_way rec }
 {
     if rec.piece > 4096 {
         return false;
@@ -229,7 +229,7 @@ fn in_range(rec: Record) -> bool
 
 // Whether a call is due.
 fn is_due(rec: Record, call: usize) -> bool
-    ensures { result ≡ isDue rec call }
+    ensures { result ≡ is_due rec call }
 {
     if call == PIECE {
         return rec.due == 1;
@@ -300,7 +300,7 @@ fn admit(side: Bench, rec: Record, len: usize, call: usize) -> Admission
 
 // The answer of a call that is turned away.
 fn turned_away(rec: Record, number: u32) -> Answer
-    ensures { result ≡ turnedAway rec number }
+    ensures { result ≡ turned_away rec number }
 {
     Answer {
         reply: Reply::Refused(number),
@@ -310,7 +310,7 @@ fn turned_away(rec: Record, number: u32) -> Answer
 
 // The cepstral index after a reply: a heard frame moves it on, round and round.
 fn next_index(index: usize, reply: Reply) -> usize
-    ensures { result ≡ nextIndex index reply }
+    ensures { result ≡ next_index index reply }
 {
     match reply {
         Reply::Heard(_, _) => {
@@ -329,7 +329,7 @@ fn next_index(index: usize, reply: Reply) -> usize
 
 // What a bench needs to hear, after a reply: its index, and what its opening noted.
 fn next_hearing(hearing: Hearing, reply: Reply) -> Hearing
-    ensures { result ≡ nextHearing hearing reply }
+    ensures { result ≡ next_hearing hearing reply }
 {
     let way = hearing.way;
     Hearing {
@@ -343,7 +343,7 @@ fn next_hearing(hearing: Hearing, reply: Reply) -> Hearing
 
 // The number of heard frames after a reply.
 fn next_heard(number: u32, reply: Reply) -> u32
-    ensures { result ≡ nextHeard number reply }
+    ensures { result ≡ next_heard number reply }
 {
     match reply {
         Reply::Heard(_, _) => frame::one_more(number),
@@ -357,7 +357,7 @@ fn next_heard(number: u32, reply: Reply) -> u32
 
 // The call that is due after `call`.
 fn next_due(call: usize) -> usize
-    ensures { result ≡ nextDue call }
+    ensures { result ≡ next_due call }
 {
     if call < 4 {
         return call + 1;
@@ -367,7 +367,7 @@ fn next_due(call: usize) -> usize
 
 // The answer to a frame call: where its reply is no refusal, the following call is due.
 fn told(rec: Record, reply: Reply) -> Answer
-    ensures { result ≡ toldOf rec reply }
+    ensures { result ≡ told_of rec reply }
 {
     if !frame::passed(reply) {
         return Answer { reply, rec };
@@ -396,7 +396,7 @@ fn numbered(rec: Record) -> Record
 
 // The answer to call 4: the frames and the heard frames, as they then stand.
 fn told_fourth(rec: Record, reply: Reply) -> Answer
-    ensures { result ≡ toldFourth rec reply }
+    ensures { result ≡ told_fourth rec reply }
 {
     if !frame::passed(reply) {
         return Answer { reply, rec };
@@ -409,7 +409,7 @@ fn told_fourth(rec: Record, reply: Reply) -> Answer
 
 // The answer to a first half, which is two calls.
 fn told_first(rec: Record, reply: Reply) -> Answer
-    ensures { result ≡ toldFirst rec reply }
+    ensures { result ≡ told_first rec reply }
 {
     let first = told(rec, reply);
     let next = first.rec;
@@ -418,7 +418,7 @@ fn told_first(rec: Record, reply: Reply) -> Answer
 
 // The answer to a second half: its reply is call 3's, and call 4's numbers stand in the record.
 pub fn told_second(rec: Record, reply: Reply) -> Answer
-    ensures { result ≡ toldSecond rec reply }
+    ensures { result ≡ told_second rec reply }
 {
     if !frame::passed(reply) {
         return Answer { reply, rec };
@@ -444,7 +444,7 @@ fn carried(rec: Record, rest: usize, size: usize, progress: usize) -> Record
 // The answer to a piece of so many samples.
 fn told_piece(rec: Record, size: usize, reply: Reply) -> Answer
     requires { passed reply ≡ true → (rec.waiting ≤ 479) × (size ≤ 4096) }
-    ensures { result ≡ toldPiece rec size reply }
+    ensures { result ≡ told_piece rec size reply }
 {
     if !frame::passed(reply) {
         return Answer { reply, rec };
@@ -458,7 +458,7 @@ fn told_piece(rec: Record, size: usize, reply: Reply) -> Answer
 // The answer to a resume of a piece of so many samples.
 fn told_resume(rec: Record, size: usize, reply: Reply) -> Answer
     requires { passed reply ≡ true → (rec.progress ≤ size) × (size ≤ 4096) }
-    ensures { result ≡ toldResume rec size reply }
+    ensures { result ≡ told_resume rec size reply }
 {
     if !frame::passed(reply) {
         return Answer { reply, rec };
@@ -589,7 +589,7 @@ pub fn call2_own(
 ) -> Answer
     ensures { Worked
         (desk BENCHES side.0 rec store.old
-        (call2Own spectrum.now (length window.old) (length sums.old)))
+        (call2_own spectrum.now (length window.old) (length sums.old)))
         result store.new (window.old ∷ sums.old ∷ [])
         (window.new ∷ sums.new ∷ []) }
 {
@@ -678,7 +678,7 @@ pub fn first_half(
 ) -> Answer
     ensures { Worked
         (desk BENCHES side.0 rec store.old
-        (firstHalf samples.now (length sums.old)))
+        (first_half samples.now (length sums.old)))
         result store.new (sums.old ∷ []) (sums.new ∷ []) }
 {
     let Admission {
@@ -708,7 +708,7 @@ pub fn second_half(
 ) -> Answer
     ensures { Worked
         (desk BENCHES side.0 rec store.old
-        (secondHalf logs.now model.now (length out.old)))
+        (second_half logs.now model.now (length out.old)))
         result store.new (out.old ∷ []) (out.new ∷ []) }
 {
     let Admission {

@@ -10,23 +10,23 @@ use Rattle.rules.proofs.Common.{◌≡◌, refl, sym, ap, ◌∙◌, ltb, length
 use Rattle.rules.proofs.Common.{length-append, Float}
 use borrow.Author.Tests.{lt-ltb, le-ltb}
 use Rattle.rules.specs.Place.{get, put}
-use Rattle.frame.specs.Written.{Written, all, from, nothing, firstIn}
+use Rattle.frame.specs.Written.{Written, all, from, nothing, first_in}
 use Rattle.desk.specs.declared.Answer.{Answer}
 use Rattle.frame.specs.Effect.{Effect}
 use Rattle.frame.specs.declared.Reply.{Reply}
 use Rattle.frame.specs.declared.Reply.TheVariants.{Done}
 use Rattle.frame.specs.Reply.{passed}
-use Rattle.halves.specs.Halves.{firstHalf, secondHalf}
-use Rattle.pieces.specs.Pieces.{framePart, waitingIn, waits, frame_at, further}
+use Rattle.halves.specs.Halves.{first_half, second_half}
+use Rattle.pieces.specs.Pieces.{frame_part, waiting_in, waits, frame_at, further}
 use Rattle.pieces.specs.Pieces as pieces
-use Rattle.pieces.proofs.Accepted.{Piece, piece-taken, Resume, resume-taken}
-use Rattle.pieces.proofs.Cases.{piece-by, resume-by}
-use Rattle.pieces.proofs.Halved.{Halved, second-passes}
-use Rattle.pieces.proofs.Kept.{further-reply}
-use Rattle.pieces.proofs.Shares.{part_length, waiting-length}
+use Rattle.pieces.proofs.Accepted.{Piece, piece_taken, Resume, resume_taken}
+use Rattle.pieces.proofs.Cases.{piece_by, resume_by}
+use Rattle.pieces.proofs.Halved.{Halved, second_passes}
+use Rattle.pieces.proofs.Kept.{further_reply}
+use Rattle.pieces.proofs.Shares.{part_length, waiting_length}
 use Rattle.desk.specs.declared.Record.{Record}
 use Rattle.desk.specs.Gate.{share_of, gate}
-use Rattle.desk.specs.Desk.{Ask, piece, resume, call_of, holding, advanced, numbered, carried, answered, onShare, desk}
+use Rattle.desk.specs.Desk.{Ask, piece, resume, call_of, holding, advanced, numbered, carried, answered, on_share, desk}
 use Rattle.desk.proofs.Answered as past
 
 -- ---- the gate
@@ -38,13 +38,13 @@ on side store rec ask f =
 
 module _ (n side : ℕ) (rec : Record) (store : List Float) (ask : Ask) where
   pub let_through : gate n side rec (length store) (call_of ask) ≡ 0
-      → desk n side rec store ask ≡ on side store rec ask (onShare rec (get (share_of side) store) ask)
-  let_through e = past.let-in rec ask n side store e
+      → desk n side rec store ask ≡ on side store rec ask (on_share rec (get (share_of side) store) ask)
+  let_through e = past.let_in rec ask n side store e
 
-  pub let-in : passed (desk n side rec store ask).answer.reply ≡ true
+  pub let_in : passed (desk n side rec store ask).answer.reply ≡ true
       → (gate n side rec (length store) (call_of ask) ≡ 0)
-      × (desk n side rec store ask ≡ on side store rec ask (onShare rec (get (share_of side) store) ask))
-  let-in p = let e = past.was-let-in rec ask n side store p in (e, let_through e)
+      × (desk n side rec store ask ≡ on side store rec ask (on_share rec (get (share_of side) store) ask))
+  let_in p = let e = past.was_let_in rec ask n side store p in (e, let_through e)
 
 -- ---- onward with the rest of a piece
 
@@ -70,23 +70,23 @@ module _ (side : ℕ) (store : List Float) (rec : Record) (reply : Reply) (share
   ends h = rw (lt-ltb (length rest) 480 h)
 
   pub pauses : 480 ≤ length rest
-      → let f = firstHalf (get framePart share) rec.hearing.way (take 480 rest) 22 in
+      → let f = first_half (get frame_part share) rec.hearing.way (take 480 rest) 22 in
       onward side store rec reply share rest size progress w
       ≡ record {
         answer = record { reply = reply; rec = holding 3 rec 0 size progress };
-        kept = put (share_of side) store (put framePart share f.kept);
-        written = w ∷ all (firstIn f.written) ∷ [];
+        kept = put (share_of side) store (put frame_part share f.kept);
+        written = w ∷ all (first_in f.written) ∷ [];
       }
   unfolding further carried
   pauses h = rw (le-ltb (length rest) 480 h)
 
   -- either way the output is written first
-  pub first-onward : get_or (onward side store rec reply share rest size progress w).written 0 nothing ≡ w
+  pub first_onward : get_or (onward side store rec reply share rest size progress w).written 0 nothing ≡ w
   unfolding further
-  first-onward = go (ltb (length rest) 480)
+  first_onward = go (ltb (length rest) 480)
     where
       go : (t : Bool)
-          → get_or (cond t (pieces.atEnd reply share rest w)
+          → get_or (cond t (pieces.at_end reply share rest w)
           (pieces.paused reply share rec.hearing.way rest w)).written 0 nothing ≡ w
       go true = refl
       go false = refl
@@ -102,31 +102,31 @@ module _ (n side : ℕ) (rec : Record) (store samples : List Float) (out sums : 
 
   abbrev pub begins : Effect Answer
   begins =
-      onward side store rec Done (waits its []) (waitingIn rec.waiting its ++ samples) (length samples)
+      onward side store rec Done (waits its []) (waiting_in rec.waiting its ++ samples) (length samples)
       (480 - rec.waiting) nothing
 
-  begun-onward : facts → on side store rec (piece samples out sums)
+  begun_onward : facts → on side store rec (piece samples out sums)
       (pieces.piece its rec.hearing.way rec.waiting samples out sums) ≡ begins
-  begun-onward k =
-      let rest = waitingIn rec.waiting its ++ samples in
+  begun_onward k =
+      let rest = waiting_in rec.waiting its ++ samples in
       let long : length rest ≡ rec.waiting + length samples =
-      length-append (waitingIn rec.waiting its) samples
-      ∙ ap (λ (m : ℕ). m + length samples) (waiting-length its k.size rec.waiting k.waits) in
+      length-append (waiting_in rec.waiting its) samples
+      ∙ ap (λ (m : ℕ). m + length samples) (waiting_length its k.size rec.waiting k.waits) in
       rw (
-        piece-taken its rec.hearing.way rec.waiting samples out sums k,
-        further-reply Done (waits its []) rec.hearing.way rest nothing,
+        piece_taken its rec.hearing.way rec.waiting samples out sums k,
+        further_reply Done (waits its []) rec.hearing.way rest nothing,
         long,
       )
 
-  pub piece-passed : passed (desk n side rec store (piece samples out sums)).answer.reply ≡ true
+  pub piece_passed : passed (desk n side rec store (piece samples out sums)).answer.reply ≡ true
       → (gate n side rec (length store) 5 ≡ 0) × facts × (desk n side rec store (piece samples out sums) ≡ begins)
-  piece-passed p =
-      let t = let-in n side rec store (piece samples out sums) p in
+  piece_passed p =
+      let t = let_in n side rec store (piece samples out sums) p in
       let q : passed (pieces.piece its rec.hearing.way rec.waiting samples out sums).answer ≡ true =
       sym (ap (λ (o : Effect Answer). passed o.answer.reply) t.1) ∙ p in
-      let k = piece-by its (λ o. passed o.answer ≡ true → facts) (λ m e. absurd (false≢true e)) rec.hearing.way
+      let k = piece_by its (λ o. passed o.answer ≡ true → facts) (λ m e. absurd (false≢true e)) rec.hearing.way
       rec.waiting samples out sums (λ k _. k) q in
-      (t.0, k, t.1 ∙ begun-onward k)
+      (t.0, k, t.1 ∙ begun_onward k)
 
 -- ---- a resume
 
@@ -138,43 +138,43 @@ module _ (n side : ℕ) (rec : Record) (store samples logs : List Float) (model 
   known = Resume mine rec.hearing rec.piece rec.progress samples logs model out sums
 
   abbrev half : Effect Reply
-  half = secondHalf (get framePart mine) rec.hearing logs model 480
+  half = second_half (get frame_part mine) rec.hearing logs model 480
 
   -- the second half is refused nothing
-  pub half-passes : known → Halved 480 half
-  half-passes k =
-      second-passes (get framePart mine) rec.hearing logs model
+  pub half_passes : known → Halved 480 half
+  half_passes k =
+      second_passes (get frame_part mine) rec.hearing logs model
       (part_length mine k.size) k.taken k.inside k.right
 
   abbrev pub goes : Effect Answer
   goes =
-      onward side store (numbered (advanced rec half.answer)) half.answer (put framePart mine half.kept)
+      onward side store (numbered (advanced rec half.answer)) half.answer (put frame_part mine half.kept)
       (drop rec.progress samples)
-      (length samples) (rec.progress + 480) (from (480 * (frame_at rec.progress - 1)) (firstIn half.written))
+      (length samples) (rec.progress + 480) (from (480 * (frame_at rec.progress - 1)) (first_in half.written))
 
-  pub resumed-onward : known
+  pub resumed_onward : known
       → on side store rec (resume samples logs model out sums)
       (pieces.resume mine rec.hearing rec.piece rec.progress samples logs model out sums)
       ≡ goes
-  resumed-onward k =
+  resumed_onward k =
       let rest = drop rec.progress samples in
       rw (
-        resume-taken mine rec.hearing rec.piece rec.progress samples logs model out sums k,
-        further-reply half.answer (put framePart mine half.kept) rec.hearing.way rest
-            (from (480 * (frame_at rec.progress - 1)) (firstIn half.written)),
-        (half-passes k).passes,
+        resume_taken mine rec.hearing rec.piece rec.progress samples logs model out sums k,
+        further_reply half.answer (put frame_part mine half.kept) rec.hearing.way rest
+            (from (480 * (frame_at rec.progress - 1)) (first_in half.written)),
+        (half_passes k).passes,
         length-drop rec.progress samples,
       )
 
-  pub resume-passed : passed (desk n side rec store (resume samples logs model out sums)).answer.reply ≡ true
+  pub resume_passed : passed (desk n side rec store (resume samples logs model out sums)).answer.reply ≡ true
       → (gate n side rec (length store) 6 ≡ 0) × known
       × (desk n side rec store (resume samples logs model out sums) ≡ goes)
-  resume-passed p =
-      let t = let-in n side rec store (resume samples logs model out sums) p in
+  resume_passed p =
+      let t = let_in n side rec store (resume samples logs model out sums) p in
       let o = pieces.resume mine rec.hearing rec.piece rec.progress samples logs model out sums in
       let q : passed o.answer ≡ true = sym (ap (λ (g : Effect Answer). passed g.answer.reply) t.1) ∙ p in
       let k =
-      resume-by mine (λ o. passed o.answer ≡ true → known) (λ m e. absurd (false≢true e))
+      resume_by mine (λ o. passed o.answer ≡ true → known) (λ m e. absurd (false≢true e))
       rec.hearing rec.piece rec.progress samples logs model out sums
       (λ m l _ e. absurd (false≢true e)) (λ k _. k) q in
-      (t.0, k, t.1 ∙ resumed-onward k)
+      (t.0, k, t.1 ∙ resumed_onward k)

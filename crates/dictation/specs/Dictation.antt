@@ -2,11 +2,11 @@
 -- waits. There are no pieces here.
 use Rattle.rules.specs.Common.{ℕ, List, [], ◌∷◌, ◌++◌, length, take, drop, Float}
 use Rattle.rules.specs.Place.{get, put}
-use Rattle.frame.specs.Written.{firstIn}
+use Rattle.frame.specs.Written.{first_in}
 use Rattle.frame.specs.Effect.{Effect}
 use Rattle.frame.specs.declared.Reply.{Reply}
-use Rattle.halves.specs.Halves.{firstHalf, secondHalf}
-use Rattle.pieces.specs.Pieces.{framePart, waitingIn, waits}
+use Rattle.halves.specs.Halves.{first_half, second_half}
+use Rattle.pieces.specs.Pieces.{frame_part, waiting_in, waits}
 use Rattle.desk.specs.declared.Answer.{Answer}
 use Rattle.desk.specs.declared.Record.{Record}
 use Rattle.desk.specs.Gate.{share_of}
@@ -31,17 +31,17 @@ pub record Dictated : Type 0 where
 
 -- One frame on a share: a first half, then a second half with what is lent for the first one's sums. After
 -- the first half call 3 is due; the second half moves the record on.
-abbrev pub sumsOf : Record → List Float → List Float → List Float
-sumsOf rec share xs = firstIn (firstHalf (get framePart share) rec.hearing.way xs 22).written
+abbrev pub sums_of : Record → List Float → List Float → List Float
+sums_of rec share xs = first_in (first_half (get frame_part share) rec.hearing.way xs 22).written
 
-abbrev pub frameOn : Record → List Float → List Float → Lent → Effect Answer
-frameOn rec share xs l =
-    let f = firstHalf (get framePart share) rec.hearing.way xs 22 in
-    let s = secondHalf f.kept rec.hearing (l.logs (sumsOf rec share xs)) l.model 480 in
+abbrev pub frame_on : Record → List Float → List Float → Lent → Effect Answer
+frame_on rec share xs l =
+    let f = first_half (get frame_part share) rec.hearing.way xs 22 in
+    let s = second_half f.kept rec.hearing (l.logs (sums_of rec share xs)) l.model 480 in
     let after = numbered (advanced (holding 3 rec 0 0 0) s.answer) in
     record {
       answer = record { reply = s.answer; rec = after };
-      kept = put framePart share s.kept;
+      kept = put frame_part share s.kept;
       written = s.written;
     }
 
@@ -49,17 +49,17 @@ frameOn rec share xs l =
 unfoldable pub dictate : Record → List Float → List Float → List Lent → Dictated
 dictate rec share xs [] = record { rec = holding 1 rec (length xs) 0 0; kept = waits share xs; told = []; out = [] }
 dictate rec share xs (l ∷ more) =
-    let o = frameOn rec share (take 480 xs) l in
+    let o = frame_on rec share (take 480 xs) l in
     let d = dictate o.answer.rec o.kept (drop 480 xs) more in
-    let here : Told = (sumsOf rec share (take 480 xs), o.answer.reply, o.answer.rec) in
-    record { rec = d.rec; kept = d.kept; told = here ∷ d.told; out = firstIn o.written ++ d.out }
+    let here : Told = (sums_of rec share (take 480 xs), o.answer.reply, o.answer.rec) in
+    record { rec = d.rec; kept = d.kept; told = here ∷ d.told; out = first_in o.written ++ d.out }
 
 -- The dictation of the samples that wait in a share, followed by these.
-abbrev pub dictatedOn : Record → List Float → List Float → List Lent → Dictated
-dictatedOn rec share samples lent = dictate rec share (waitingIn rec.waiting share ++ samples) lent
+abbrev pub dictated_on : Record → List Float → List Float → List Lent → Dictated
+dictated_on rec share samples lent = dictate rec share (waiting_in rec.waiting share ++ samples) lent
 
 -- The same on a side of a store.
 abbrev pub dictated : ℕ → Record → List Float → List Float → List Lent → Dictated
 dictated side rec store samples lent =
-    let d = dictatedOn rec (get (share_of side) store) samples lent in
+    let d = dictated_on rec (get (share_of side) store) samples lent in
     record { rec = d.rec; kept = put (share_of side) store d.kept; told = d.told; out = d.out }

@@ -13,8 +13,8 @@ module _ {Answer : Type 0} {Fits : Type 0} (number : Answer → ℕ) {got new ol
       go (done f e) = absurd (h (ap number e ∙ zero))
       go (refused n e) = (n, ap number e)
 
-  pub taken-up : (number old ≡ 0 → ⊥) → number got ≡ 0 → Fits × (got ≡ new)
-  taken-up some z = go promise
+  pub taken_up : (number old ≡ 0 → ⊥) → number got ≡ 0 → Fits × (got ≡ new)
+  taken_up some z = go promise
     where
       go : Leaf Fits got new old → Fits × (got ≡ new)
       go (done f e) = (f, e)
@@ -25,9 +25,9 @@ stored [] h e = absurd (omega arith)
 stored {A} (x ∷ []) h e = ap (λ (v : A). v ∷ []) e
 stored (x ∷ y ∷ xs) h e = absurd (omega arith)
 
-pub stored-two : {A : Type 0} (xs : List A) {v w p q : A} → length xs ≡ 2 → v ≡ p → w ≡ q
+pub stored_two : {A : Type 0} (xs : List A) {v w p q : A} → length xs ≡ 2 → v ≡ p → w ≡ q
     → set (set xs 0 v) 1 w ≡ (p ∷ q ∷ [])
-stored-two [] h e d = absurd (omega arith)
-stored-two (x ∷ []) h e d = absurd (omega arith)
-stored-two (x ∷ y ∷ []) h e d = rw (e, d)
-stored-two (x ∷ y ∷ z ∷ xs) h e d = absurd (omega arith)
+stored_two [] h e d = absurd (omega arith)
+stored_two (x ∷ []) h e d = absurd (omega arith)
+stored_two (x ∷ y ∷ []) h e d = rw (e, d)
+stored_two (x ∷ y ∷ z ∷ xs) h e d = absurd (omega arith)

@@ -13,13 +13,13 @@ use lib.ListN.{drop_of_length-le}
 use lib.Seq.{take_all}
 use Rattle.rules.specs.Place.{Place, get, put}
 use Rattle.frame.specs.Written.{Written, all, onto}
-use Rattle.frame.proofs.Buffers.{onto-more, to_none}
+use Rattle.frame.proofs.Buffers.{onto_more, to_none}
 use Rattle.frame.specs.Effect.{Effect, Worked}
 use Rattle.frame.specs.Reply.{passed}
 use Rattle.desk.specs.declared.Record.{Record}
 use Rattle.desk.specs.declared.Answer.{Answer}
 use Rattle.desk.specs.Gate.{BENCHES, in_range}
-use Rattle.desk.specs.Surface.{RECORD, recordIn, numbersOf, replyNumber, heardOf, out_of, telling, handed}
+use Rattle.desk.specs.Surface.{RECORD, record_in, numbers_of, reply_number, heard_of, out_of, telling, handed}
 use Rattle.desk.proofs.Ranged.{bounded}
 use Rattle.desk.proofs.Replies.{SmallSeven}
 use Rattle.export.specs.Private.{HandsBack}
@@ -33,24 +33,24 @@ pub record Sound (side : ℕ) (b : Record) (a : Answer) : Type 0 where
   pub seated : passed a.reply ≡ true → side < BENCHES
 
 -- a record in range has all its places
-all-places : (side : ℕ) (ns : List ℕ) → in_range (recordIn side ns) ≡ true → length ns ≡ RECORD
-unfolding recordIn in_range
-all-places side ns e = go (eqb (length ns) RECORD) refl
+all_places : (side : ℕ) (ns : List ℕ) → in_range (record_in side ns) ≡ true → length ns ≡ RECORD
+unfolding record_in in_range
+all_places side ns e = go (eqb (length ns) RECORD) refl
   where
     go : (t : Bool) → eqb (length ns) RECORD ≡ t → length ns ≡ RECORD
     go true h = eqb-true (length ns) RECORD h
     go false h = absurd (false≢true (rw h at e))
 
-pub hands-back : (side : ℕ) (ns : List ℕ) (b : Record) {a given : Answer} → b ≡ recordIn side ns → Sound side b a
+pub hands_back : (side : ℕ) (ns : List ℕ) (b : Record) {a given : Answer} → b ≡ record_in side ns → Sound side b a
     → given ≡ a → HandsBack side ns given
-hands-back side ns b {a} {given} read sound e =
+hands_back side ns b {a} {given} read sound e =
     rw e
     (record {
       small = sound.small;
       fits =
           λ p.
           let r = sound.ranged p in
-          (all-places side ns (rw read at r.0), bounded a.rec r.1, sound.seated p);
+          (all_places side ns (rw read at r.0), bounded a.rec r.1, sound.seated p);
     })
 
 -- ---- a call with its answer as three numbers besides
@@ -96,7 +96,7 @@ joined : (p : Bool) (ws : List Written) (held left : List (List Float)) (told t 
     → left ++ (t' ∷ []) ≡ onto (ws ++ cond p (all told ∷ []) []) (held ++ (t ∷ []))
 joined true ws held left told t t' l e f =
     ap₂ (λ (x : List (List Float)) (y : List Float). x ++ (y ∷ [])) e f
-    ∙ sym (onto-more ws (all told ∷ []) held (t ∷ []) l)
+    ∙ sym (onto_more ws (all told ∷ []) held (t ∷ []) l)
 joined false [] held left told t t' l e f = ap₂ (λ (x : List (List Float)) (y : List Float). x ++ (y ∷ [])) e f
 joined false (w ∷ ws) held left told t t' l e f = absurd (omega arith)
 
@@ -120,12 +120,12 @@ module _ (side : ℕ) (ns : List ℕ) (store' : List Float) (give : ℕ → Effe
       go true e = eqb-true (length answer) 3 e
       go false e = absurd (false≢true (sym (shut e) ∙ p))
 
-  pub told-three : {number : ℕ} {ns' : List ℕ} {answer' : List Float} → length new ≡ length (get (up_to end) out)
-      → answer' ≡ cond (passed given.reply) (heardOf given.reply) answer
-      → (number ≡ replyNumber given.reply) × (ns' ≡ cond (passed given.reply) (numbersOf side given.rec) ns)
+  pub told_three : {number : ℕ} {ns' : List ℕ} {answer' : List Float} → length new ≡ length (get (up_to end) out)
+      → answer' ≡ cond (passed given.reply) (heard_of given.reply) answer
+      → (number ≡ reply_number given.reply) × (ns' ≡ cond (passed given.reply) (numbers_of side given.rec) ns)
       → Worked (handed side ns (telling (give (out_of (length answer) (length out))))) (number, ns') store'
       (out ∷ others ++ (answer ∷ [])) (put (up_to end) out new ∷ others' ++ (answer' ∷ []))
-  told-three {number} {ns'} {answer'} same told h = go (eqb (length answer) 3) refl
+  told_three {number} {ns'} {answer'} same told h = go (eqb (length answer) 3) refl
     where
       go : (t : Bool) → eqb (length answer) 3 ≡ t
           → Worked (handed side ns (telling (give (out_of (length answer) (length out))))) (number, ns') store'
@@ -140,7 +140,7 @@ module _ (side : ℕ) (ns : List ℕ) (store' : List Float) (give : ℕ → Effe
             keeps = s.keeps;
             writes =
                 joined (passed o.answer.reply) o.written (out ∷ others) (new ∷ others')
-                (heardOf o.answer.reply) answer answer'
+                (heard_of o.answer.reply) answer answer'
                 (known.writes (length out)) s.writes (rw s.answers at told);
           })
       go false e =

@@ -13,31 +13,31 @@ use Rattle.desk.specs.declared.Record.{Record}
 use Rattle.desk.specs.declared.Answer.{Answer}
 use Rattle.desk.specs.Gate.{BENCHES}
 use Rattle.desk.specs.Desk.{Ask, desk}
-use Rattle.desk.specs.Surface.{recordIn, numbersOf, replyNumber, heardOf, toldBesides, besides, out_of, hosted}
+use Rattle.desk.specs.Surface.{record_in, numbers_of, reply_number, heard_of, told_besides, besides, out_of, hosted}
 use Rattle.desk.specs.Surface as surface
-use Rattle.desk.proofs.Buffers.{buffersOf, buffers}
-use Rattle.desk.proofs.Ranged.{range-kept, seated}
+use Rattle.desk.proofs.Buffers.{buffers_of, buffers}
+use Rattle.desk.proofs.Ranged.{range_kept, seated}
 use Rattle.desk.proofs.Replies.{small}
 use Rattle.export.specs.Private.{HandsBack}
-use Rattle.export.proofs.Given.{Telling, up_to, told-three}
+use Rattle.export.proofs.Given.{Telling, up_to, told_three}
 use Rattle.export.proofs.Given as any
 
 -- the record as the code has it, and what the desk's call left
 module _ (side : ℕ) (ns : List ℕ) (b : Record) (store store' : List Float) (ask : Ask) (held out : List (List Float))
     (answer : Answer)
-    (read : b ≡ recordIn side ns) (served : Worked (desk BENCHES side b store ask) answer store' held out) where
-  pub hands-back : HandsBack side ns answer
-  hands-back =
-      any.hands-back side ns b read
+    (read : b ≡ record_in side ns) (served : Worked (desk BENCHES side b store ask) answer store' held out) where
+  pub hands_back : HandsBack side ns answer
+  hands_back =
+      any.hands_back side ns b read
       (record {
         small = small BENCHES side b store ask;
-        ranged = range-kept BENCHES side b store ask;
+        ranged = range_kept BENCHES side b store ask;
         seated = seated BENCHES side b store ask;
       }) served.answers
 
   -- a call with no buffer but its own
   pub handed : {number : ℕ} {ns' : List ℕ}
-      → (number ≡ replyNumber answer.reply) × (ns' ≡ cond (passed answer.reply) (numbersOf side answer.rec) ns)
+      → (number ≡ reply_number answer.reply) × (ns' ≡ cond (passed answer.reply) (numbers_of side answer.rec) ns)
       → besides ask answer.reply ≡ []
       → Worked (surface.handed side ns (hosted BENCHES side ns store ask)) (number, ns') store' held out
   unfolding hosted
@@ -58,9 +58,9 @@ module _ (side : ℕ) (ns : List ℕ) (b : Record) (store store' : List Float) (
 module _ (side : ℕ) (ns : List ℕ) (b : Record) (store store' : List Float) (ask : ℕ → Ask) (out answer new : List Float)
     (others others' : List (List Float)) (given : Answer) (end : ℕ)
     (no_place : passed (desk BENCHES side b store (ask 0)).answer.reply ≡ false)
-    (lent : (n : ℕ) → buffersOf (ask n) ≡ suc (length others))
-    (with-three : (n : ℕ) (r : Reply) → besides (ask n) r ≡ toldBesides r)
-    (read : b ≡ recordIn side ns) (ends : end ≡ out_of (length answer) (length out))
+    (lent : (n : ℕ) → buffers_of (ask n) ≡ suc (length others))
+    (with-three : (n : ℕ) (r : Reply) → besides (ask n) r ≡ told_besides r)
+    (read : b ≡ record_in side ns) (ends : end ≡ out_of (length answer) (length out))
     (served : Worked (desk BENCHES side b store (ask (length (get (up_to end) out)))) given store'
     (get (up_to end) out ∷ others) (new ∷ others')) where
   abbrev give : ℕ → Effect Answer
@@ -72,14 +72,14 @@ module _ (side : ℕ) (ns : List ℕ) (b : Record) (store store' : List Float) (
   pub three : passed given.reply ≡ true → length answer ≡ 3
   three = any.three side ns store' give out answer new others others' given end known ends served
 
-  pub handed-three : {number : ℕ} {ns' : List ℕ} {answer' : List Float} → length new ≡ length (get (up_to end) out)
-      → answer' ≡ cond (passed given.reply) (heardOf given.reply) answer
-      → (number ≡ replyNumber given.reply) × (ns' ≡ cond (passed given.reply) (numbersOf side given.rec) ns)
+  pub handed_three : {number : ℕ} {ns' : List ℕ} {answer' : List Float} → length new ≡ length (get (up_to end) out)
+      → answer' ≡ cond (passed given.reply) (heard_of given.reply) answer
+      → (number ≡ reply_number given.reply) × (ns' ≡ cond (passed given.reply) (numbers_of side given.rec) ns)
       → Worked (surface.handed side ns (hosted BENCHES side ns store (ask (out_of (length answer) (length out)))))
       (number, ns') store'
       (out ∷ others ++ (answer ∷ [])) (put (up_to end) out new ∷ others' ++ (answer' ∷ []))
   unfolding hosted
-  handed-three same told h =
+  handed_three same told h =
       let n = out_of (length answer) (length out) in
       rw (← read, with-three n (give n).answer.reply)
-      (told-three side ns store' give out answer new others others' given end known ends served same told h)
+      (told_three side ns store' give out answer new others others' given end known ends served same told h)

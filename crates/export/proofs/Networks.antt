@@ -11,7 +11,7 @@ pub known : {O Fits : Type 0} {got new old : O} {activation : ℕ} → activatio
 known h (done f e) = done (record { known = h; fits = f }) e
 known h (refused n e) = refused (λ k. n k.fits) e
 
-pub answered-by : (gains voice vad noise denoise : List Float) (model : List ℕ) (features : List Float) {o : Outcome}
+pub answered_by : (gains voice vad noise denoise : List Float) (model : List ℕ) (features : List Float) {o : Outcome}
     → o ≡ computed gains voice vad noise denoise model features → Answered o.answer
-answered-by gains voice vad noise denoise model features e =
+answered_by gains voice vad noise denoise model features e =
     rw e (answered gains voice vad noise denoise model features)

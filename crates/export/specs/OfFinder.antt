@@ -10,9 +10,9 @@ pub record FindFits (numbers place mem : ℕ) : Type 0 where
   pub whole : mem ≡ 1728
 
 -- what is found after the numbers that were kept
-abbrev pub foundAfter : List Float → List Float → Pitch
-foundAfter numbers mem = find (at numbers 0) (at numbers 1) mem
+abbrev pub found_after : List Float → List Float → Pitch
+found_after numbers mem = find (at numbers 0) (at numbers 1) mem
 
 -- the period, as an f32, and the gain
-abbrev pub keptNumbers : Pitch → List Float
-keptNumbers p = of_int binary32 (pos p.period) ∷ p.gain ∷ []
+abbrev pub kept_numbers : Pitch → List Float
+kept_numbers p = of_int binary32 (pos p.period) ∷ p.gain ∷ []

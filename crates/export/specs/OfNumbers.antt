@@ -8,5 +8,5 @@ pub record BiquadFits (output memory coefficients input : ℕ) : Type 0 where
   pub four : coefficients ≡ 4
   pub same : output ≡ input
 
-abbrev pub biquadOf : List Float → Biquad
-biquadOf xs = record { a0 = at xs 0; a1 = at xs 1; b0 = at xs 2; b1 = at xs 3 }
+abbrev pub biquad_of : List Float → Biquad
+biquad_of xs = record { a0 = at xs 0; a1 = at xs 1; b0 = at xs 2; b1 = at xs 3 }

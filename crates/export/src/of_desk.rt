@@ -14,10 +14,10 @@ ghost use Rattle.std.specs.Prelude.{◌≡◌, true, cond, [], ◌∷◌, length
 ghost use Rattle.frame.specs.Reply.{passed};
 ghost use Rattle.frame.specs.declared.Way.TheVariants.{Own, Nnnoiseless};
 ghost use Rattle.desk.specs.Gate.{BENCHES, side_of};
-ghost use Rattle.desk.specs.Desk.{recordOf, noHearing, opening, call1, call2, call2Own, call3, call4, firstHalf};
-ghost use Rattle.desk.specs.Desk.{secondHalf, piece, resume};
+ghost use Rattle.desk.specs.Desk.{record_of, no_hearing, opening, call1, call2, call2_own, call3, call4, first_half};
+ghost use Rattle.desk.specs.Desk.{second_half, piece, resume};
 ghost use Rattle.frame.specs.Effect.{Worked};
-ghost use Rattle.desk.specs.Surface.{RECORD, benchNumber, numbersOf, wayIn, hearingIn, recordIn, replyNumber, heardOf};
+ghost use Rattle.desk.specs.Surface.{RECORD, bench_number, numbers_of, way_in, hearing_in, record_in, reply_number, heard_of};
 ghost use Rattle.desk.specs.Surface.{out_of, hosted, handed};
 ghost use Rattle.desk.proofs.Ranged.{Bounded};
 ghost use Rattle.desk.proofs.Replies.{SmallSeven};
@@ -37,7 +37,7 @@ fn wide(x: u32) -> usize
 
 // The way that a number means.
 fn way_in(number: u32) -> Way
-    ensures { result ≡ wayIn number }
+    ensures { result ≡ way_in number }
 {
     if number == 0 {
         return Way::Own;
@@ -48,7 +48,7 @@ fn way_in(number: u32) -> Way
 // What a bench needs to hear a frame, from a record's numbers.
 fn hearing_in(record: &[u32]) -> Hearing
     requires { length «record».now ≡ RECORD }
-    ensures { result ≡ hearingIn «record».now }
+    ensures { result ≡ hearing_in «record».now }
 {
     Hearing {
         index: wide(record[1]),
@@ -61,7 +61,7 @@ fn hearing_in(record: &[u32]) -> Hearing
 
 // A record that is out of range, so that every call refuses it.
 fn no_record() -> Record
-    ensures { result ≡ recordOf 5 noHearing 0 0 }
+    ensures { result ≡ record_of 5 no_hearing 0 0 }
 {
     let hearing = Hearing {
         index: 0,
@@ -75,7 +75,7 @@ fn no_record() -> Record
 
 // The last number of a record: the bench's number plus 1 if the record is open, and 0 if it is closed.
 fn bench_number(side: u32, due: usize) -> usize
-    ensures { result ≡ benchNumber side due }
+    ensures { result ≡ bench_number side due }
 {
     if due == 0 {
         return 0;
@@ -87,7 +87,7 @@ fn bench_number(side: u32, due: usize) -> usize
 fn belongs(side: u32, record: &[u32]) -> bool
     requires { length «record».now ≡ RECORD }
     ensures { result ≡ eqb (get_or «record».now 11 0)
-        (benchNumber side (get_or «record».now 0 0)) }
+        (bench_number side (get_or «record».now 0 0)) }
 {
     let due = wide(record[0]);
     wide(record[11]) == bench_number(side, due)
@@ -96,7 +96,7 @@ fn belongs(side: u32, record: &[u32]) -> bool
 // A bench's record from its numbers. If there are not twelve, or one of them is no way, or they are another bench's,
 // the record is out of range.
 pub(crate) fn record_in(side: u32, record: &[u32]) -> Record
-    ensures { result ≡ recordIn side «record».now }
+    ensures { result ≡ record_in side «record».now }
 {
     if record.len() != RECORD {
         return no_record();
@@ -120,7 +120,7 @@ pub(crate) fn record_in(side: u32, record: &[u32]) -> Record
 // A bench's record as numbers.
 fn put_record(side: u32, record: &mut [u32], rec: Record)
     requires { (length «record».old ≡ RECORD) × Bounded rec × (side < BENCHES) }
-    ensures { «record».new ≡ numbersOf side rec }
+    ensures { «record».new ≡ numbers_of side rec }
 {
     record[0] = rec.due as u32;
     record[1] = rec.hearing.index as u32;
@@ -141,7 +141,7 @@ fn put_record(side: u32, record: &mut [u32], rec: Record)
 // A reply as a number: 0, or the refusal.
 fn number_of(reply: Reply) -> u32
     requires { SmallSeven reply }
-    ensures { result ≡ replyNumber reply }
+    ensures { result ≡ reply_number reply }
 {
     match reply {
         Reply::Done => 0,
@@ -156,8 +156,8 @@ fn number_of(reply: Reply) -> u32
 // Writes back the record of a call that is done, and returns the reply's number. A refused call leaves the record.
 pub(crate) fn hand_back(side: u32, record: &mut [u32], given: Answer) -> u32
     requires { HandsBack side «record».old given }
-    ensures { (result ≡ replyNumber given.reply)
-        × («record».new ≡ cond (passed given.reply) (numbersOf side given.rec)
+    ensures { (result ≡ reply_number given.reply)
+        × («record».new ≡ cond (passed given.reply) (numbers_of side given.rec)
         «record».old) }
 {
     let reply = given.reply;
@@ -293,7 +293,7 @@ pub extern "C" fn tuppence_call2_own(
     ensures { Worked
         (handed side «record».old
         (hosted BENCHES side «record».old store.old
-        (call2Own spectrum.now (length window.old) (length sums.old))))
+        (call2_own spectrum.now (length window.old) (length sums.old))))
         (result, «record».new) store.new
         (window.old ∷ sums.old ∷ []) (window.new ∷ sums.new ∷ []) }
 {
@@ -311,7 +311,7 @@ pub extern "C" fn tuppence_call2_own(
 // Writes the answer of call 3, of the second half or of a resume as three numbers, if the call is done.
 pub(crate) fn tell(answer: &mut [f32], reply: Reply)
     requires { passed reply ≡ true → length answer.old ≡ 3 }
-    ensures { answer.new ≡ cond (passed reply) (heardOf reply) answer.old }
+    ensures { answer.new ≡ cond (passed reply) (heard_of reply) answer.old }
 {
     if !frame::passed(reply) {
         return;
@@ -407,7 +407,7 @@ pub extern "C" fn tuppence_first_half(
     ensures { Worked
         (handed side «record».old
         (hosted BENCHES side «record».old store.old
-        (firstHalf samples.now (length sums.old))))
+        (first_half samples.now (length sums.old))))
         (result, «record».new) store.new (sums.old ∷ []) (sums.new ∷ []) }
 {
     let given = desk::first_half(
@@ -435,7 +435,7 @@ pub extern "C" fn tuppence_second_half(
     ensures { Worked
         (handed side «record».old
         (hosted BENCHES side «record».old store.old
-        (secondHalf logs.now model.now
+        (second_half logs.now model.now
         (out_of (length answer.old) (length out.old)))))
         (result, «record».new) store.new
         (out.old ∷ answer.old ∷ []) (out.new ∷ answer.new ∷ []) }

@@ -5,7 +5,7 @@ ghost use Rattle.desk.specs.Gate.{BENCHES};
 ghost use Rattle.frame.specs.Effect.{WorkedBoth};
 ghost use Rattle.desk.specs.Surface.{handed};
 ghost use Rattle.feed.specs.Feed.{block_of};
-ghost use Rattle.feed.specs.Surface.{hostedFeed};
+ghost use Rattle.feed.specs.Surface.{hosted_feed};
 
 use desk::Bench;
 
@@ -29,7 +29,7 @@ pub extern "C" fn tuppence_feed(
 ) -> u32
     ensures { WorkedBoth
         (handed side «record».old
-        (hostedFeed BENCHES side «record».old store.old
+        (hosted_feed BENCHES side «record».old store.old
         (block_of bytes.now format channels channel)
         model.now (length out.old) (length records.old)
         (length answers.old)))

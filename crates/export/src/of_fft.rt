@@ -2,16 +2,16 @@
 ghost use Rattle.std.specs.Prelude.{length};
 ghost use Rattle.rules.specs.Leaf.{Leaf, ◌leaving◌};
 ghost use Rattle.transforms.specs.Transform.{ForwardFits, InverseFits};
-ghost use Rattle.fft.specs.Single.{fastForward, fastInverse};
+ghost use Rattle.fft.specs.Single.{fast_forward, fast_inverse};
 
 // From samples to a spectrum: `samples` has 960 numbers, `spectrum` gets 961: bin 0, then the real and imaginary
 // parts of bins 1 to 480.
 #[unsafe(no_mangle)]
 pub extern "C" fn tuppence_fft_forward(spectrum: &mut [f32], samples: &[f32]) -> u32
     ensures { Leaf (ForwardFits (length spectrum.old) (length samples.now))
-        (result leaving (λ x. x.now) spectrum.exit)
-        (0 leaving fastForward samples.now)
-        (5 leaving (λ x. x.now) spectrum.entry) }
+        (result leaving spectrum.new)
+        (0 leaving fast_forward samples.now)
+        (5 leaving spectrum.old) }
 {
     fft::forward(spectrum, samples)
 }
@@ -20,9 +20,9 @@ pub extern "C" fn tuppence_fft_forward(spectrum: &mut [f32], samples: &[f32]) ->
 #[unsafe(no_mangle)]
 pub extern "C" fn tuppence_fft_inverse(samples: &mut [f32], spectrum: &[f32]) -> u32
     ensures { Leaf (InverseFits (length samples.old) (length spectrum.now))
-        (result leaving (λ x. x.now) samples.exit)
-        (0 leaving fastInverse spectrum.now)
-        (5 leaving (λ x. x.now) samples.entry) }
+        (result leaving samples.new)
+        (0 leaving fast_inverse spectrum.now)
+        (5 leaving samples.old) }
 {
     fft::inverse(samples, spectrum)
 }

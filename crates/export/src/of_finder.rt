@@ -1,7 +1,7 @@
 // finder: nnnoiseless's pitch finder. Refusal 5: a slice has a wrong length.
 ghost use Rattle.std.specs.Prelude.{[], ◌∷◌, length};
 ghost use Rattle.rules.specs.Leaf.{Leaf, ◌leaving◌};
-ghost use Rattle.export.specs.OfFinder.{FindFits, foundAfter, keptNumbers};
+ghost use Rattle.export.specs.OfFinder.{FindFits, found_after, kept_numbers};
 
 // `numbers` has two places, the last period and the last gain, and gets the new ones. `place` has one place, for the
 // period, 60 to 767. `input_mem` has the last 1,728 filtered samples.
@@ -9,10 +9,10 @@ ghost use Rattle.export.specs.OfFinder.{FindFits, foundAfter, keptNumbers};
 pub extern "C" fn tuppence_find(numbers: &mut [f32], place: &mut [u32], input_mem: &[f32]) -> u32
     ensures { Leaf (FindFits (length numbers.old) (length place.old)
         (length input_mem.now))
-        (result leaving (λ x. x.now) numbers.exit leaving (λ x. x.now) place.exit)
-        (0 leaving keptNumbers (foundAfter numbers.old input_mem.now)
-        leaving (foundAfter numbers.old input_mem.now).period ∷ [])
-        (5 leaving (λ x. x.now) numbers.entry leaving (λ x. x.now) place.entry) }
+        (result leaving numbers.new leaving place.new)
+        (0 leaving kept_numbers (found_after numbers.old input_mem.now)
+        leaving (found_after numbers.old input_mem.now).period ∷ [])
+        (5 leaving numbers.old leaving place.old) }
 {
     if numbers.len() != 2 {
         return 5;

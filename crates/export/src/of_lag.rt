@@ -1,7 +1,7 @@
 // lag: our own lag. Refusal 5: a slice has a wrong length.
 ghost use Rattle.std.specs.Prelude.{[], ◌∷◌, length};
 ghost use Rattle.rules.specs.Leaf.{Leaf, ◌leaving◌};
-ghost use Rattle.lag.specs.Lag.{ownLag};
+ghost use Rattle.lag.specs.Lag.{own_lag};
 ghost use Rattle.export.specs.OfLag.{LagFits};
 
 // Our own lag, an even number from 182 to 768. `place` has one place, for the lag, and `input_mem` has the last
@@ -9,9 +9,9 @@ ghost use Rattle.export.specs.OfLag.{LagFits};
 #[unsafe(no_mangle)]
 pub extern "C" fn tuppence_lag(place: &mut [u32], input_mem: &[f32]) -> u32
     ensures { Leaf (LagFits (length place.old) (length input_mem.now))
-        (result leaving (λ x. x.now) place.exit)
-        (0 leaving ownLag input_mem.now ∷ [])
-        (5 leaving (λ x. x.now) place.entry) }
+        (result leaving place.new)
+        (0 leaving own_lag input_mem.now ∷ [])
+        (5 leaving place.old) }
 {
     if place.len() != 1 {
         return 5;

@@ -3,13 +3,13 @@ ghost use Rattle.std.specs.Prelude.{◌≡◌, ◌≤◌};
 ghost use Rattle.rules.specs.Leaf.{◌leaving◌};
 ghost use Rattle.model.specs.Model.{read_of};
 ghost use Rattle.model.specs.Array.{choice_of};
-ghost use Rattle.model.specs.Summary.{summaryOf, arrayTold};
-ghost use Rattle.desk.specs.Surface.{sevenOf};
+ghost use Rattle.model.specs.Summary.{summary_of, array_told};
+ghost use Rattle.desk.specs.Surface.{seven_of};
 
 // `numbers` has thirty places: six times inputs, neurons, activation, offset and length. `model` is a file's bytes.
 #[unsafe(no_mangle)]
 pub extern "C" fn tuppence_model(numbers: &mut [u32], model: &[u8]) -> u32
-    ensures { (result leaving (λ x. x.now) numbers.exit) ≡ summaryOf model.now numbers.old }
+    ensures { (result leaving numbers.new) ≡ summary_of model.now numbers.old }
 {
     model::summary(numbers, model)
 }
@@ -24,7 +24,7 @@ pub extern "C" fn tuppence_model_array(
     layer: u32,
     array: u32,
 ) -> u32
-    ensures { (result leaving (λ x. x.now) place.exit) ≡ arrayTold model.now layer array place.old }
+    ensures { (result leaving place.new) ≡ array_told model.now layer array place.old }
 {
     model::array_numbers(place, model, layer as usize, array as usize)
 }
@@ -40,7 +40,7 @@ pub extern "C" fn tuppence_model_choose(trial: &[u8], house: &[u8]) -> u32
 // Refusal 7 of the others, with the number and the layer of a model that does not read.
 pub(crate) fn seven(number: u32, layer: u32) -> u32
     requires { (number ≤ 22) × (layer ≤ 6) }
-    ensures { result ≡ sevenOf number layer }
+    ensures { result ≡ seven_of number layer }
 {
     7 + 256 * number + 65536 * layer
 }

@@ -2,17 +2,17 @@
 // length; and if the model does not read, 7 + 256 times the model's refusal + 65,536 times the layer.
 ghost use Rattle.std.specs.Prelude.{◌≡◌, length};
 ghost use Rattle.rules.specs.Leaf.{Leaf, ◌leaving◌};
-ghost use Rattle.model.specs.Layer.{activationOf};
-ghost use Rattle.network.specs.Layers.{denseOf, DenseFits, gruOf, GruFits};
-ghost use Rattle.network.specs.Compute.{layeredOf, computed};
+ghost use Rattle.model.specs.Layer.{activation_of};
+ghost use Rattle.network.specs.Layers.{dense_of, DenseFits, gru_of, GruFits};
+ghost use Rattle.network.specs.Compute.{layered_of, computed};
 ghost use Rattle.network.proofs.Callers.{Answered};
-ghost use Rattle.export.specs.OfNetwork.{KnownActivation, computedNumber, computedTold};
+ghost use Rattle.export.specs.OfNetwork.{KnownActivation, computed_number, computed_told};
 
 use model::Activation;
 use network::Computed;
 
 fn activation_of(number: u32) -> Activation
-    ensures { result ≡ activationOf number }
+    ensures { result ≡ activation_of number }
 {
     match number {
         0 => Activation::Tanh,
@@ -35,9 +35,9 @@ pub extern "C" fn tuppence_dense(
         (KnownActivation activation (DenseFits
         (length output.old) (length weights.now) (length bias.now)
         (length input.now)))
-        (result leaving (λ x. x.now) output.exit)
-        (0 leaving denseOf weights.now bias.now (activationOf activation) input.now)
-        (5 leaving (λ x. x.now) output.entry) }
+        (result leaving output.new)
+        (0 leaving dense_of weights.now bias.now (activation_of activation) input.now)
+        (5 leaving output.old) }
 {
     if 2 < activation {
         return 5;
@@ -61,11 +61,11 @@ pub extern "C" fn tuppence_gru(
         (length state.old) (length weights.now) (length recurrent.now)
         (length bias.now)
         (length input.now)))
-        (result leaving (λ x. x.now) state.exit)
-        (0 leaving gruOf
+        (result leaving state.new)
+        (0 leaving gru_of
         weights.now recurrent.now bias.now
-        (activationOf activation) input.now state.old)
-        (5 leaving (λ x. x.now) state.entry) }
+        (activation_of activation) input.now state.old)
+        (5 leaving state.old) }
 {
     if 2 < activation {
         return 5;
@@ -83,7 +83,7 @@ pub extern "C" fn tuppence_gru(
 // A reply as a number: 0, 5, or 7 with the number and the layer of a model that does not read.
 fn number_of(answer: Computed) -> u32
     requires { Answered answer }
-    ensures { result ≡ computedNumber answer }
+    ensures { result ≡ computed_number answer }
 {
     match answer {
         Computed::Done => 0,
@@ -104,9 +104,9 @@ pub extern "C" fn tuppence_network(
     model: &[u8],
     features: &[f32],
 ) -> u32
-    ensures { (result leaving layeredOf
+    ensures { (result leaving layered_of
         gains.new voice.new vad.new noise.new denoise.new)
-        ≡ computedTold (computed
+        ≡ computed_told (computed
         gains.old voice.old vad.old noise.old denoise.old
         model.now features.now) }
 {

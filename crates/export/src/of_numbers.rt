@@ -2,18 +2,18 @@
 ghost use Rattle.std.specs.Prelude.{◌≡◌, length};
 ghost use Rattle.std.specs.Float.{binary32};
 ghost use Rattle.rules.specs.Leaf.{Leaf, ◌leaving◌};
-ghost use Rattle.numbers.specs.Activations.{tansigApprox, sigmoidApprox};
-ghost use Rattle.numbers.specs.Filter.{memoryAfter, outputs};
+ghost use Rattle.numbers.specs.Activations.{tansig_approx, sigmoid_approx};
+ghost use Rattle.numbers.specs.Filter.{memory_after, outputs};
 ghost use Rattle.numbers.specs.Larger.{larger, smaller, clamped, rectified};
 ghost use Rattle.numbers.specs.Narrowed.{narrowed};
 ghost use Rattle.numbers.specs.Root.{root};
-ghost use Rattle.numbers.specs.Filter.{memoryOf, memoryList};
-ghost use Rattle.export.specs.OfNumbers.{BiquadFits, biquadOf};
+ghost use Rattle.numbers.specs.Filter.{memory_of, memory_list};
+ghost use Rattle.export.specs.OfNumbers.{BiquadFits, biquad_of};
 
 // The hyperbolic tangent by nnnoiseless's table and interpolation. NaN gives 0.
 #[unsafe(no_mangle)]
 pub extern "C" fn tuppence_tansig(x: f32) -> f32
-    ensures { result ≡ tansigApprox x }
+    ensures { result ≡ tansig_approx x }
 {
     numbers::tansig_approx(x)
 }
@@ -21,7 +21,7 @@ pub extern "C" fn tuppence_tansig(x: f32) -> f32
 // The sigmoid, by the same table. NaN gives 0.5.
 #[unsafe(no_mangle)]
 pub extern "C" fn tuppence_sigmoid(x: f32) -> f32
-    ensures { result ≡ sigmoidApprox x }
+    ensures { result ≡ sigmoid_approx x }
 {
     numbers::sigmoid_approx(x)
 }
@@ -87,11 +87,11 @@ pub extern "C" fn tuppence_filter(
         (BiquadFits
         (length output.old) (length memory.old) (length coefficients.now)
         (length input.now))
-        (result leaving (λ x. x.now) output.exit leaving (λ x. x.now) memory.exit)
-        (0 leaving outputs (biquadOf coefficients.now) (memoryOf memory.old) input.now
-        leaving memoryList (memoryAfter (biquadOf coefficients.now) (memoryOf memory.old)
+        (result leaving output.new leaving memory.new)
+        (0 leaving outputs (biquad_of coefficients.now) (memory_of memory.old) input.now
+        leaving memory_list (memory_after (biquad_of coefficients.now) (memory_of memory.old)
         input.now))
-        (5 leaving (λ x. x.now) output.entry leaving (λ x. x.now) memory.entry) }
+        (5 leaving output.old leaving memory.old) }
 {
     if memory.len() != 2 {
         return 5;

@@ -15,9 +15,9 @@ pub extern "C" fn tuppence_unpack(
     channel: u32,
 ) -> u32
     ensures { Leaf (UnpackFits (length out.old) (length bytes.now) format channels channel)
-        (result leaving (λ x. x.now) out.exit)
+        (result leaving out.new)
         (0 leaving unpacked (length out.old) bytes.now format channels channel)
-        (5 leaving (λ x. x.now) out.entry) }
+        (5 leaving out.old) }
 {
     pcm::unpack(out, bytes, format, channels as usize, channel as usize)
 }
@@ -26,9 +26,9 @@ pub extern "C" fn tuppence_unpack(
 #[unsafe(no_mangle)]
 pub extern "C" fn tuppence_pack(out: &mut [u8], samples: &[f32]) -> u32
     ensures { Leaf (PackFits (length out.old) (length samples.now))
-        (result leaving (λ x. x.now) out.exit)
+        (result leaving out.new)
         (0 leaving packed samples.now)
-        (5 leaving (λ x. x.now) out.entry) }
+        (5 leaving out.old) }
 {
     pcm::pack(out, samples)
 }

@@ -2,12 +2,12 @@
 // wrong length.
 ghost use Rattle.std.specs.Prelude.{◌≡◌, [], ◌∷◌, ◌<◌, length};
 ghost use Rattle.rules.specs.Leaf.{Leaf, ◌leaving◌};
-ghost use Rattle.pitch_search.specs.Inner.{innerProd};
-ghost use Rattle.pitch.specs.Lpc.{lpcOf};
-ghost use Rattle.pitch.specs.Xcorr.{pitchXcorr, XcorrFits};
+ghost use Rattle.pitch_search.specs.Inner.{inner_prod};
+ghost use Rattle.pitch.specs.Lpc.{lpc_of};
+ghost use Rattle.pitch.specs.Xcorr.{pitch_xcorr, XcorrFits};
 ghost use Rattle.pitch_search.specs.Best.{best};
 ghost use Rattle.pitch.specs.Fir.{fir5};
-ghost use Rattle.pitch.specs.Autocorr.{celtAutocorr, AutocorrFits};
+ghost use Rattle.pitch.specs.Autocorr.{celt_autocorr, AutocorrFits};
 ghost use Rattle.pitch.specs.Downsample.{downsampled, DownsampleFits};
 ghost use Rattle.export.specs.OfPitch.{SumFits, PitchesFit};
 
@@ -15,9 +15,9 @@ ghost use Rattle.export.specs.OfPitch.{SumFits, PitchesFit};
 #[unsafe(no_mangle)]
 pub extern "C" fn tuppence_inner_prod(sum: &mut [f32], xs: &[f32], ys: &[f32], n: usize) -> u32
     ensures { Leaf (SumFits (length sum.old) (length xs.now) (length ys.now) n)
-        (result leaving (λ x. x.now) sum.exit)
-        (0 leaving innerProd xs.now ys.now n ∷ [])
-        (5 leaving (λ x. x.now) sum.entry) }
+        (result leaving sum.new)
+        (0 leaving inner_prod xs.now ys.now n ∷ [])
+        (5 leaving sum.old) }
 {
     if sum.len() != 1 {
         return 5;
@@ -35,9 +35,9 @@ pub extern "C" fn tuppence_inner_prod(sum: &mut [f32], xs: &[f32], ys: &[f32], n
 #[unsafe(no_mangle)]
 pub extern "C" fn tuppence_lpc(lpc: &mut [f32], ac: &[f32]) -> u32
     ensures { Leaf (length lpc.old < length ac.now)
-        (result leaving (λ x. x.now) lpc.exit)
-        (0 leaving lpcOf (length lpc.old) ac.now)
-        (5 leaving (λ x. x.now) lpc.entry) }
+        (result leaving lpc.new)
+        (0 leaving lpc_of (length lpc.old) ac.now)
+        (5 leaving lpc.old) }
 {
     pitch::lpc(lpc, ac)
 }
@@ -48,9 +48,9 @@ pub extern "C" fn tuppence_lpc(lpc: &mut [f32], ac: &[f32]) -> u32
 pub extern "C" fn tuppence_pitch_xcorr(xcorr: &mut [f32], xs: &[f32], ys: &[f32]) -> u32
     ensures { Leaf (XcorrFits (length xs.now) (length ys.now)
         (length xcorr.old))
-        (result leaving (λ x. x.now) xcorr.exit)
-        (0 leaving pitchXcorr xs.now ys.now (length xcorr.old))
-        (5 leaving (λ x. x.now) xcorr.entry) }
+        (result leaving xcorr.new)
+        (0 leaving pitch_xcorr xs.now ys.now (length xcorr.old))
+        (5 leaving xcorr.old) }
 {
     pitch::pitch_xcorr(xs, ys, xcorr)
 }
@@ -65,10 +65,10 @@ pub extern "C" fn tuppence_find_best_pitch(
 ) -> u32
     ensures { Leaf (PitchesFit (length pitches.old) (length xcorr.now)
         (length ys.now) len)
-        (result leaving (λ x. x.now) pitches.exit)
-        (0 leaving (best xcorr.now ys.now len).bestPitch
-        ∷ (best xcorr.now ys.now len).secondBestPitch ∷ [])
-        (5 leaving (λ x. x.now) pitches.entry) }
+        (result leaving pitches.new)
+        (0 leaving (best xcorr.now ys.now len).best_pitch
+        ∷ (best xcorr.now ys.now len).second_best_pitch ∷ [])
+        (5 leaving pitches.old) }
 {
     if pitches.len() != 2 {
         return 5;
@@ -87,9 +87,9 @@ pub extern "C" fn tuppence_find_best_pitch(
 #[unsafe(no_mangle)]
 pub extern "C" fn tuppence_fir5(xs: &mut [f32], num: &[f32]) -> u32
     ensures { Leaf (length num.now ≡ 5)
-        (result leaving (λ x. x.now) xs.exit)
+        (result leaving xs.new)
         (0 leaving fir5 xs.old num.now)
-        (5 leaving (λ x. x.now) xs.entry) }
+        (5 leaving xs.old) }
 {
     pitch::fir5_in_place(xs, num)
 }
@@ -97,10 +97,10 @@ pub extern "C" fn tuppence_fir5(xs: &mut [f32], num: &[f32]) -> u32
 // Autocorrelation. `ac` has five places, `x` five numbers or more.
 #[unsafe(no_mangle)]
 pub extern "C" fn tuppence_autocorr(ac: &mut [f32], x: &[f32]) -> u32
-    ensures { Leaf (AutocorrFits (length x.entry.now) (length ac.old))
-        (result leaving (λ x. x.now) ac.exit)
-        (0 leaving celtAutocorr x.entry.now)
-        (5 leaving (λ x. x.now) ac.entry) }
+    ensures { Leaf (AutocorrFits (length x.now) (length ac.old))
+        (result leaving ac.new)
+        (0 leaving celt_autocorr x.now)
+        (5 leaving ac.old) }
 {
     pitch::celt_autocorr(x, ac)
 }
@@ -108,10 +108,10 @@ pub extern "C" fn tuppence_autocorr(ac: &mut [f32], x: &[f32]) -> u32
 // Halves the sampling rate. `x` has 1,728 numbers, `x_lp` gets 864.
 #[unsafe(no_mangle)]
 pub extern "C" fn tuppence_downsample(x_lp: &mut [f32], x: &[f32]) -> u32
-    ensures { Leaf (DownsampleFits (length x.entry.now) (length x_lp.old))
-        (result leaving (λ x. x.now) x_lp.exit)
-        (0 leaving downsampled x.entry.now)
-        (5 leaving (λ x. x.now) x_lp.entry) }
+    ensures { Leaf (DownsampleFits (length x.now) (length x_lp.old))
+        (result leaving x_lp.new)
+        (0 leaving downsampled x.now)
+        (5 leaving x_lp.old) }
 {
     pitch::pitch_downsample(x, x_lp)
 }

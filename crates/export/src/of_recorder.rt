@@ -3,7 +3,7 @@
 // no audio, or more than a recording has; 70 not as many records as the audio takes; 71 no place for a cut.
 ghost use Rattle.std.specs.Prelude.{◌≡◌};
 ghost use Rattle.rules.specs.Leaf.{◌leaving◌};
-ghost use Rattle.recorder.specs.Numbers.{begunLaid, moreLaid, closingLaid, nextLaid, finishLaid};
+ghost use Rattle.recorder.specs.Numbers.{begun_laid, more_laid, closing_laid, next_laid, finish_laid};
 
 // A recording begins. `numbers` has eight places; what they held is overwritten. `side` is 0 for left and 1 for right;
 // it `began` so many seconds after 1970 began, 0 if nobody knows; its `first` frame has this number, 0 after an
@@ -15,7 +15,7 @@ pub extern "C" fn tuppence_recorder_begin(
     began: u64,
     first: u32,
 ) -> u32
-    ensures { (result leaving (λ x. x.now) numbers.exit) ≡ begunLaid side began first numbers.old }
+    ensures { (result leaving numbers.new) ≡ begun_laid side began first numbers.old }
 {
     recorder::begin(numbers, side, began, first)
 }
@@ -32,8 +32,8 @@ pub extern "C" fn tuppence_recorder_more(
     cleaned: &[u8],
     records: &[u8],
 ) -> u32
-    ensures { (result leaving (λ x. x.now) numbers.exit leaving (λ x. x.now) part.exit)
-        ≡ moreLaid taken cleaned.now records.now numbers.old part.old }
+    ensures { (result leaving numbers.new leaving part.new)
+        ≡ more_laid taken cleaned.now records.now numbers.old part.old }
 {
     recorder::more(numbers, part, taken, cleaned, records)
 }
@@ -42,7 +42,7 @@ pub extern "C" fn tuppence_recorder_more(
 // that all that was taken in comes out. `numbers` has eight places, as they were left.
 #[unsafe(no_mangle)]
 pub extern "C" fn tuppence_recorder_closing(silence: &mut [u64], numbers: &[u64]) -> u32
-    ensures { (result leaving (λ x. x.now) silence.exit) ≡ closingLaid numbers.now silence.old }
+    ensures { (result leaving silence.new) ≡ closing_laid numbers.now silence.old }
 {
     recorder::closing(silence, numbers)
 }
@@ -51,7 +51,7 @@ pub extern "C" fn tuppence_recorder_closing(silence: &mut [u64], numbers: &[u64]
 // whole frame; they become those of the next recording. The recording that ends is finished first.
 #[unsafe(no_mangle)]
 pub extern "C" fn tuppence_recorder_next(numbers: &mut [u64], began: u64) -> u32
-    ensures { (result leaving (λ x. x.now) numbers.exit) ≡ nextLaid began numbers.old }
+    ensures { (result leaving numbers.new) ≡ next_laid began numbers.old }
 {
     recorder::next(numbers, began)
 }
@@ -65,8 +65,8 @@ pub extern "C" fn tuppence_recorder_finish(
     trailer: &mut [u8],
     numbers: &[u64],
 ) -> u32
-    ensures { (result leaving (λ x. x.now) head.exit leaving (λ x. x.now) chunk.exit leaving (λ x. x.now) trailer.exit)
-        ≡ finishLaid numbers.now head.old chunk.old trailer.old }
+    ensures { (result leaving head.new leaving chunk.new leaving trailer.new)
+        ≡ finish_laid numbers.now head.old chunk.old trailer.old }
 {
     recorder::finish(head, chunk, trailer, numbers)
 }

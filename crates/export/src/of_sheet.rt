@@ -6,16 +6,16 @@
 // there is no record to keep.
 ghost use Rattle.std.specs.Prelude.{◌≡◌};
 ghost use Rattle.rules.specs.Leaf.{◌leaving◌};
-ghost use Rattle.sheet.specs.Asked.{sheetSummary, entry_at};
-ghost use Rattle.sheet.specs.Mended.{mendOf};
-ghost use Rattle.sheet.specs.Rows.{recordsLaid, trailerLaid};
+ghost use Rattle.sheet.specs.Asked.{sheet_summary, entry_at};
+ghost use Rattle.sheet.specs.Mended.{mend_of};
+ghost use Rattle.sheet.specs.Rows.{records_laid, trailer_laid};
 ghost use Rattle.sheet.specs.Written.{written_of};
 
 // Writes a whole sheet. `entries` has at most 536,870,911. `out` has 16 bytes and 8 for each entry; what it has
 // beyond that stays. `side` is 0 for left, 1 for right.
 #[unsafe(no_mangle)]
 pub extern "C" fn tuppence_sheet_write(out: &mut [u8], side: u32, entries: &[u64]) -> u32
-    ensures { (result leaving (λ x. x.now) out.exit)
+    ensures { (result leaving out.new)
         ≡ written_of (record { side = side; entries = entries.now }) out.old }
 {
     sheet::write(out, side, entries)
@@ -30,8 +30,8 @@ pub extern "C" fn tuppence_sheet_records(
     side: u32,
     entries: &[u64],
 ) -> u32
-    ensures { (result leaving (λ x. x.now) numbers.exit leaving (λ x. x.now) out.exit)
-        ≡ recordsLaid side entries.now numbers.old out.old }
+    ensures { (result leaving numbers.new leaving out.new)
+        ≡ records_laid side entries.now numbers.old out.old }
 {
     sheet::parts::records(numbers, out, side, entries)
 }
@@ -39,7 +39,7 @@ pub extern "C" fn tuppence_sheet_records(
 // Writes the trailer of `count` records with this `sum`. `out` has 16 bytes; what it has beyond that stays.
 #[unsafe(no_mangle)]
 pub extern "C" fn tuppence_sheet_trailer(out: &mut [u8], side: u32, count: u64, sum: u64) -> u32
-    ensures { (result leaving (λ x. x.now) out.exit) ≡ trailerLaid side count sum out.old }
+    ensures { (result leaving out.new) ≡ trailer_laid side count sum out.old }
 {
     sheet::parts::trailer(out, side, count, sum)
 }
@@ -48,7 +48,7 @@ pub extern "C" fn tuppence_sheet_trailer(out: &mut [u8], side: u32, count: u64, 
 // the bytes of a recording, or its last ones from the first record on.
 #[unsafe(no_mangle)]
 pub extern "C" fn tuppence_sheet_read(numbers: &mut [u64], file: &[u8]) -> u32
-    ensures { (result leaving (λ x. x.now) numbers.exit) ≡ sheetSummary file.now numbers.old }
+    ensures { (result leaving numbers.new) ≡ sheet_summary file.now numbers.old }
 {
     sheet::summary(numbers, file)
 }
@@ -57,7 +57,7 @@ pub extern "C" fn tuppence_sheet_read(numbers: &mut [u64], file: &[u8]) -> u32
 // tuppence_sheet_read.
 #[unsafe(no_mangle)]
 pub extern "C" fn tuppence_sheet_entry(entry: &mut [u64], file: &[u8], index: u64) -> u32
-    ensures { (result leaving (λ x. x.now) entry.exit) ≡ entry_at file.now index entry.old }
+    ensures { (result leaving entry.new) ≡ entry_at file.now index entry.old }
 {
     sheet::entry(entry, file, index)
 }
@@ -66,8 +66,8 @@ pub extern "C" fn tuppence_sheet_entry(entry: &mut [u64], file: &[u8], index: u6
 // has 16 bytes more than `file`, which is always enough. The audio of `file` ends at `place`.
 #[unsafe(no_mangle)]
 pub extern "C" fn tuppence_mend(numbers: &mut [u64], out: &mut [u8], file: &[u8], place: u64) -> u32
-    ensures { (result leaving (λ x. x.now) numbers.exit leaving (λ x. x.now) out.exit)
-        ≡ mendOf file.now place numbers.old out.old }
+    ensures { (result leaving numbers.new leaving out.new)
+        ≡ mend_of file.now place numbers.old out.old }
 {
     sheet::mend(numbers, out, file, place)
 }

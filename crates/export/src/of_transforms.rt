@@ -1,16 +1,16 @@
 // transforms: the two transforms as plain sums. Refusal 5: a slice has a wrong length.
 ghost use Rattle.std.specs.Prelude.{length};
 ghost use Rattle.rules.specs.Leaf.{Leaf, ◌leaving◌};
-ghost use Rattle.transforms.specs.Transform.{forwardOf, ForwardFits, inverseOf, InverseFits};
+ghost use Rattle.transforms.specs.Transform.{forward_of, ForwardFits, inverse_of, InverseFits};
 
 // From samples to a spectrum: `samples` has 960 numbers, `spectrum` gets 961: bin 0, then the real and imaginary
 // parts of bins 1 to 480.
 #[unsafe(no_mangle)]
 pub extern "C" fn tuppence_forward(spectrum: &mut [f32], samples: &[f32]) -> u32
     ensures { Leaf (ForwardFits (length spectrum.old) (length samples.now))
-        (result leaving (λ x. x.now) spectrum.exit)
-        (0 leaving forwardOf samples.now)
-        (5 leaving (λ x. x.now) spectrum.entry) }
+        (result leaving spectrum.new)
+        (0 leaving forward_of samples.now)
+        (5 leaving spectrum.old) }
 {
     transforms::forward(spectrum, samples)
 }
@@ -19,9 +19,9 @@ pub extern "C" fn tuppence_forward(spectrum: &mut [f32], samples: &[f32]) -> u32
 #[unsafe(no_mangle)]
 pub extern "C" fn tuppence_inverse(samples: &mut [f32], spectrum: &[f32]) -> u32
     ensures { Leaf (InverseFits (length samples.old) (length spectrum.now))
-        (result leaving (λ x. x.now) samples.exit)
-        (0 leaving inverseOf spectrum.now)
-        (5 leaving (λ x. x.now) samples.entry) }
+        (result leaving samples.new)
+        (0 leaving inverse_of spectrum.now)
+        (5 leaving samples.old) }
 {
     transforms::inverse(samples, spectrum)
 }

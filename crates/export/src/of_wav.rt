@@ -2,9 +2,9 @@
 ghost use Rattle.std.specs.Prelude.{◌≡◌};
 ghost use Rattle.rules.specs.Leaf.{◌leaving◌};
 ghost use Rattle.checksum.specs.Checksum.{crc32};
-ghost use Rattle.wav.specs.Chunks.{stepTold};
-ghost use Rattle.wav.specs.Head.{headWritten};
-ghost use Rattle.wav.specs.Seal.{sealSummary, sealWritten};
+ghost use Rattle.wav.specs.Chunks.{step_told};
+ghost use Rattle.wav.specs.Head.{head_written};
+ghost use Rattle.wav.specs.Seal.{seal_summary, seal_written};
 ghost use Rattle.wav.specs.declared.seal.Word.TheVariants.{Begins, Ends};
 
 use wav::seal::Word;
@@ -22,7 +22,7 @@ pub extern "C" fn tuppence_checksum(before: u32, bytes: &[u8]) -> u32
 // bytes with this `checksum`.
 #[unsafe(no_mangle)]
 pub extern "C" fn tuppence_seal_write(out: &mut [u8], side: u32, size: u64, checksum: u32) -> u32
-    ensures { (result leaving (λ x. x.now) out.exit) ≡ sealWritten Ends side size checksum out.old }
+    ensures { (result leaving out.new) ≡ seal_written Ends side size checksum out.old }
 {
     wav::seal::write(out, Word::Ends, side, size, checksum)
 }
@@ -31,7 +31,7 @@ pub extern "C" fn tuppence_seal_write(out: &mut [u8], side: u32, size: u64, chec
 // is whatever there is from the end seal on.
 #[unsafe(no_mangle)]
 pub extern "C" fn tuppence_seal_read(numbers: &mut [u64], file: &[u8]) -> u32
-    ensures { (result leaving (λ x. x.now) numbers.exit) ≡ sealSummary Ends file.now numbers.old }
+    ensures { (result leaving numbers.new) ≡ seal_summary Ends file.now numbers.old }
 {
     wav::seal::summary(numbers, Word::Ends, file)
 }
@@ -40,7 +40,7 @@ pub extern "C" fn tuppence_seal_read(numbers: &mut [u64], file: &[u8]) -> u32
 // 1970, 0 if nobody knows, and its `first` frame has this number.
 #[unsafe(no_mangle)]
 pub extern "C" fn tuppence_front_write(out: &mut [u8], side: u32, began: u64, first: u32) -> u32
-    ensures { (result leaving (λ x. x.now) out.exit) ≡ sealWritten Begins side began first out.old }
+    ensures { (result leaving out.new) ≡ seal_written Begins side began first out.old }
 {
     wav::seal::write(out, Word::Begins, side, began, first)
 }
@@ -49,7 +49,7 @@ pub extern "C" fn tuppence_front_write(out: &mut [u8], side: u32, began: u64, fi
 // frame. `file` is whatever there is from the front seal on.
 #[unsafe(no_mangle)]
 pub extern "C" fn tuppence_front_read(numbers: &mut [u64], file: &[u8]) -> u32
-    ensures { (result leaving (λ x. x.now) numbers.exit) ≡ sealSummary Begins file.now numbers.old }
+    ensures { (result leaving numbers.new) ≡ seal_summary Begins file.now numbers.old }
 {
     wav::seal::summary(numbers, Word::Begins, file)
 }
@@ -58,7 +58,7 @@ pub extern "C" fn tuppence_front_read(numbers: &mut [u64], file: &[u8]) -> u32
 // `behind` it have so many bytes.
 #[unsafe(no_mangle)]
 pub extern "C" fn tuppence_wav_head(out: &mut [u8], rate: u32, size: u32, behind: u32) -> u32
-    ensures { (result leaving (λ x. x.now) out.exit) ≡ headWritten rate size behind out.old }
+    ensures { (result leaving out.new) ≡ head_written rate size behind out.old }
 {
     wav::head::write(out, rate, size, behind)
 }
@@ -68,7 +68,7 @@ pub extern "C" fn tuppence_wav_head(out: &mut [u8], rate: u32, size: u32, behind
 // unless the file ends. 40 means: call again.
 #[unsafe(no_mangle)]
 pub extern "C" fn tuppence_wav_read(numbers: &mut [u64], file: &[u8]) -> u32
-    ensures { (result leaving (λ x. x.now) numbers.exit) ≡ stepTold file.now numbers.old }
+    ensures { (result leaving numbers.new) ≡ step_told file.now numbers.old }
 {
     wav::chunks::read(numbers, file)
 }

@@ -4,7 +4,7 @@ ghost use Rattle.std.specs.Prelude.{[], ◌∷◌, length};
 ghost use Rattle.desk.specs.Gate.{BENCHES};
 ghost use Rattle.frame.specs.Effect.{Worked};
 ghost use Rattle.desk.specs.Surface.{out_of, handed};
-ghost use Rattle.whole.specs.Surface.{hostedFrame, hostedTake};
+ghost use Rattle.whole.specs.Surface.{hosted_frame, hosted_take};
 
 use desk::Bench;
 
@@ -22,7 +22,7 @@ pub extern "C" fn tuppence_frame(
 ) -> u32
     ensures { Worked
         (handed side «record».old
-        (hostedFrame BENCHES side «record».old store.old samples.now
+        (hosted_frame BENCHES side «record».old store.old samples.now
         model.now
         (out_of (length answer.old) (length out.old))))
         (result, «record».new) store.new
@@ -57,7 +57,7 @@ pub extern "C" fn tuppence_take(
 ) -> u32
     ensures { Worked
         (handed side «record».old
-        (hostedTake BENCHES side «record».old store.old piece.now model.now
+        (hosted_take BENCHES side «record».old store.old piece.now model.now
         (length out.old) (length answers.old)))
         (result, «record».new) store.new
         (out.old ∷ answers.old ∷ []) (out.new ∷ answers.new ∷ []) }

@@ -3,7 +3,7 @@
 // short.
 ghost use Rattle.std.specs.Prelude.{◌≡◌};
 ghost use Rattle.rules.specs.Leaf.{◌leaving◌};
-ghost use Rattle.model.specs.Writer.{arraysOf, writeModel};
+ghost use Rattle.model.specs.Writer.{arrays_of, write_model};
 
 // `shapes` has 18 numbers: inputs, neurons and activation of each layer. The arrays are signed bytes: `w0`, `b0`
 // (weights and biases) of input_dense; `w1`, `r1`, `b1` (weights, recurrent weights, biases) of vad_gru; `w2`, `r2`,
@@ -29,8 +29,8 @@ pub extern "C" fn tuppence_write_model(
     w5: &[u8],
     b5: &[u8],
 ) -> u32
-    ensures { (result leaving (λ x. x.now) out.exit) ≡ writeModel shapes.now
-        (arraysOf w0.now b0.now w1.now r1.now b1.now
+    ensures { (result leaving out.new) ≡ write_model shapes.now
+        (arrays_of w0.now b0.now w1.now r1.now b1.now
         w2.now r2.now b2.now w3.now r3.now b3.now
         w4.now b4.now w5.now b5.now) out.old }
 {

@@ -6,37 +6,37 @@ use Rattle.rules.specs.F32.{◌⊕◌, ◌⊖◌, ◌⊗◌, ◌⊘◌, at, f32}
 use Rattle.rules.specs.Place.{Place}
 use Rattle.rules.specs.Tab.{tab}
 use Rattle.numbers.specs.Larger.{larger, smaller}
-use Rattle.bands.specs.Dct.{dctOf}
+use Rattle.bands.specs.Dct.{dct_of}
 
 -- What goes from band to band. Both values start at -2.0.
 pub record Floors : Type 0 where
   -- Rust: log_max, the largest smoothed logarithm so far.
-  pub logMax : Float
+  pub log_max : Float
   -- Rust: follow, which falls by 1.5 from band to band unless a logarithm is larger.
   pub follow : Float
 
 -- The same from its two values.
-abbrev pub floorsOf : Float → Float → Floors
-floorsOf logMax follow = record { logMax = logMax; follow = follow }
+abbrev pub floors_of : Float → Float → Floors
+floors_of log_max follow = record { log_max = log_max; follow = follow }
 
 -- Rust: ly[i] = logs[i].max(log_max - 7.0).max(follow - 1.5).
-abbrev pub lyOf : Float → Floors → Float
-lyOf log s = larger (larger log (s.logMax ⊖ f32 0x40E00000)) (s.follow ⊖ f32 0x3FC00000)
+abbrev pub ly_of : Float → Floors → Float
+ly_of log s = larger (larger log (s.log_max ⊖ f32 0x40E00000)) (s.follow ⊖ f32 0x3FC00000)
 
 -- Rust: log_max = log_max.max(ly[i]); follow = (follow - 1.5).max(ly[i]).
-unfoldable pub floorStep : List Float → ℕ → Floors → Floors
-floorStep logs i s =
-    let y = lyOf (at logs i) s in
-    floorsOf (larger s.logMax y) (larger (s.follow ⊖ f32 0x3FC00000) y)
+unfoldable pub floor_step : List Float → ℕ → Floors → Floors
+floor_step logs i s =
+    let y = ly_of (at logs i) s in
+    floors_of (larger s.log_max y) (larger (s.follow ⊖ f32 0x3FC00000) y)
 
 -- The two values after i bands.
 abbrev pub floors : List Float → ℕ → Floors
-floors logs i = loop i (floorStep logs) (floorsOf (neg (f32 0x40000000)) (neg (f32 0x40000000)))
+floors logs i = loop i (floor_step logs) (floors_of (neg (f32 0x40000000)) (neg (f32 0x40000000)))
 
 -- Rust: ly, the smoothed logarithms: none is more than 7 below the largest before it, and from band to band they fall
 -- by at most 1.5.
-unfoldable pub followLogs : List Float → List Float
-followLogs logs = tab 22 (λ i. lyOf (at logs i) (floors logs i))
+unfoldable pub follow_logs : List Float → List Float
+follow_logs logs = tab 22 (λ i. ly_of (at logs i) (floors logs i))
 
 -- Rust: features[i] -= v.
 abbrev pub lessen : ℕ → Float → List Float → List Float
@@ -44,7 +44,7 @@ lessen i v features = set features i (at features i ⊖ v)
 
 -- Rust: dct(features, ly); features[0] -= 12.0; features[1] -= 4.0.
 unfoldable pub cepstrum : List Float → List Float
-cepstrum logs = lessen 1 (f32 0x40800000) (lessen 0 (f32 0x41400000) (dctOf (followLogs logs)))
+cepstrum logs = lessen 1 (f32 0x40800000) (lessen 0 (f32 0x41400000) (dct_of (follow_logs logs)))
 
 -- The place of row k: cepstral_mem[k].
 abbrev pub row : ℕ → Place
@@ -75,25 +75,25 @@ unfoldable pub deltas : (Float → Float → Float → Float) → List Float →
 deltas of mem c0 c1 c2 = tab 6 (λ i. of (cell mem c0 i) (cell mem c1 i) (cell mem c2 i))
 
 -- Rust: dist += tmp * tmp.
-abbrev pub distStep : List Float → ℕ → ℕ → ℕ → Float → Float
-distStep mem i j k dist = let tmp = cell mem i k ⊖ cell mem j k in dist ⊕ tmp ⊗ tmp
+abbrev pub dist_step : List Float → ℕ → ℕ → ℕ → Float → Float
+dist_step mem i j k dist = let tmp = cell mem i k ⊖ cell mem j k in dist ⊕ tmp ⊗ tmp
 
 -- The squared distance of rows i and j.
-unfoldable pub cepstralDistance : List Float → ℕ → ℕ → Float
-cepstralDistance mem i j = loop 22 (distStep mem i j) (f32 0)
+unfoldable pub cepstral_distance : List Float → ℕ → ℕ → Float
+cepstral_distance mem i j = loop 22 (dist_step mem i j) (f32 0)
 
 -- Rust: if j != i { min_dist = min_dist.min(dist) }.
-abbrev pub nearestStep : List Float → ℕ → ℕ → Float → Float
-nearestStep mem i j least = cond (eqb j i) least (smaller least (cepstralDistance mem i j))
+abbrev pub nearest_step : List Float → ℕ → ℕ → Float → Float
+nearest_step mem i j least = cond (eqb j i) least (smaller least (cepstral_distance mem i j))
 
 -- The smallest distance of row i from another row. It starts at 1e15.
 unfoldable pub nearest : List Float → ℕ → Float
-nearest mem i = loop 8 (nearestStep mem i) (f32 0x58635FA9)
+nearest mem i = loop 8 (nearest_step mem i) (f32 0x58635FA9)
 
 -- Rust: spec_variability += min_dist.
-abbrev pub variabilityStep : List Float → ℕ → Float → Float
-variabilityStep mem i sum = sum ⊕ nearest mem i
+abbrev pub variability_step : List Float → ℕ → Float → Float
+variability_step mem i sum = sum ⊕ nearest mem i
 
 -- How far apart the rows are: spec_variability / CEPS_MEM - 2.1.
 unfoldable pub variability : List Float → Float
-variability mem = loop 8 (variabilityStep mem) (f32 0) ⊘ f32 0x41000000 ⊖ f32 0x40066666
+variability mem = loop 8 (variability_step mem) (f32 0) ⊘ f32 0x41000000 ⊖ f32 0x40066666

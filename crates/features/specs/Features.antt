@@ -5,8 +5,8 @@ use Rattle.rules.specs.F32.{◌⊕◌, ◌⊖◌, ◌⊗◌, ◌⊘◌, at, f32}
 use Rattle.rules.specs.Place.{put}
 use Rattle.rules.specs.Tab.{tab}
 use Rattle.numbers.specs.Root.{root}
-use Rattle.bands.specs.Bands.{bandCorr}
-use Rattle.bands.specs.Dct.{dctOf}
+use Rattle.bands.specs.Bands.{band_corr}
+use Rattle.bands.specs.Dct.{dct_of}
 use Rattle.features.specs.Cepstra.{cepstrum, row, back, smoothed, slope, bend, deltas, variability}
 
 -- Rust: exp[i] /= (0.001 + ex[i] * ep[i]).sqrt().
@@ -14,14 +14,14 @@ unfoldable pub normalised : List Float → List Float → List Float → List Fl
 normalised exp ex ep = tab 22 (λ i. at exp i ⊘ root binary32 (f32 0x3A83126F ⊕ at ex i ⊗ at ep i))
 
 -- The correlation of x and p in each band, normalised by the energies of both.
-unfoldable pub normalisedCorr : List Float → List Float → List Float → List Float → List Float
-normalisedCorr x p ex ep = normalised (bandCorr x p) ex ep
+unfoldable pub normalised_corr : List Float → List Float → List Float → List Float → List Float
+normalised_corr x p ex ep = normalised (band_corr x p) ex ep
 
 -- Rust: features[34..41]. These are the first six numbers of the DCT of exp, minus 1.3 and 0.9 for the first two, and
 -- 0.01 * (lag - 300.0).
-unfoldable pub pitchFeatures : List Float → Float → List Float
-pitchFeatures exp lag =
-    let tmp = dctOf exp in
+unfoldable pub pitch_features : List Float → Float → List Float
+pitch_features exp lag =
+    let tmp = dct_of exp in
     (at tmp 0 ⊖ f32 0x3FA66666)
     ∷ (at tmp 1 ⊖ f32 0x3F666666)
     ∷ at tmp 2
@@ -32,8 +32,8 @@ pitchFeatures exp lag =
     ∷ []
 
 -- The memory with the new cepstrum in row `index`.
-unfoldable pub withCepstrum : List Float → List Float → ℕ → List Float
-withCepstrum logs mem index = put (row index) mem (cepstrum logs)
+unfoldable pub with_cepstrum : List Float → List Float → ℕ → List Float
+with_cepstrum logs mem index = put (row index) mem (cepstrum logs)
 
 -- All 42 features by their places: 0 to 5 are smoothed cepstra, 6 to 21 the rest of the cepstrum, 22 to 33 differences,
 -- 34 to 40 come from the pitch, and 41 is the variability.
@@ -43,9 +43,9 @@ laid ceps pitch mem index =
     of smoothed ++ ceps ++ of slope ++ of bend ++ pitch ++ variability mem ∷ []
 
 -- The features of a frame. Its cepstrum is remembered before the differences are taken.
-unfoldable pub featuresOf : List Float → Float → List Float → List Float → ℕ → List Float
-featuresOf exp lag logs mem index =
-    laid (drop 6 (cepstrum logs)) (pitchFeatures exp lag) (withCepstrum logs mem index) index
+unfoldable pub features_of : List Float → Float → List Float → List Float → ℕ → List Float
+features_of exp lag logs mem index =
+    laid (drop 6 (cepstrum logs)) (pitch_features exp lag) (with_cepstrum logs mem index) index
 
 -- All lengths fit, and the index is that of a row.
 pub record FeaturesFit (features exp mem index x p ex ep logs : ℕ) : Type 0 where
@@ -64,6 +64,6 @@ pub record FeaturesFit (features exp mem index x p ex ep logs : ℕ) : Type 0 wh
   -- NB_BANDS energies of the spectrum.
   pub energies : ex ≡ 22
   -- NB_BANDS energies of the lagged spectrum.
-  pub laggedEnergies : ep ≡ 22
+  pub lagged_energies : ep ≡ 22
   -- NB_BANDS logarithms.
   pub logarithms : logs ≡ 22

@@ -5,12 +5,12 @@ use Rattle.rules.specs.Tab.{tab}
 use Rattle.numbers.specs.Larger.{larger}
 
 -- Rust: 0.6 * lastg[i].
-abbrev pub sixTenths : Float → Float
-sixTenths last = f32 0x3F19999A ⊗ last
+abbrev pub six_tenths : Float → Float
+six_tenths last = f32 0x3F19999A ⊗ last
 
 -- Rust: g[i].max(0.6 * lastg[i]).
 abbrev pub at_least : Float → Float → Float
-at_least g last = larger g (sixTenths last)
+at_least g last = larger g (six_tenths last)
 
 -- What both g and lastg become.
 unfoldable pub gained : List Float → List Float → List Float

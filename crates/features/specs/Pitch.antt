@@ -4,7 +4,7 @@ use Rattle.rules.specs.F32.{◌⊕◌, ◌⊖◌, ◌⊗◌, ◌⊘◌, at, f32,
 use Rattle.rules.specs.Tab.{tab}
 use Rattle.numbers.specs.Larger.{clamped}
 use Rattle.numbers.specs.Root.{root}
-use Rattle.bands.specs.Bands.{bandCorr, bandGain}
+use Rattle.bands.specs.Bands.{band_corr, band_gain}
 use Rattle.rules.specs.Spectrum.{bin_of}
 
 -- How much of a band is pitch. Rust: if exp > gain { 1.0 } else { exp_sq * (1.0 - g_sq) / (0.001 + g_sq * (1.0 -
@@ -20,20 +20,20 @@ unfoldable pub ratio : Float → Float → Float
 ratio ex e = root binary32 (ex ⊘ (f32 0x322BCC77 ⊕ e))
 
 -- Rust: r.clamp(0.0, 1.0).sqrt() * (ex / (1e-8 + ep)).sqrt().
-unfoldable pub bandPitchGain : Float → Float → Float → Float → Float
-bandPitchGain gain exp ex ep = root binary32 (clamped (strength gain exp) (f32 0) one) ⊗ ratio ex ep
+unfoldable pub band_pitch_gain : Float → Float → Float → Float → Float
+band_pitch_gain gain exp ex ep = root binary32 (clamped (strength gain exp) (f32 0) one) ⊗ ratio ex ep
 
 -- Rust: r[i] of each band, from the gain of the network, the correlation and both energies.
-unfoldable pub pitchGains : List Float → List Float → List Float → List Float → List Float
-pitchGains gains exp ex ep = tab 22 (λ i. bandPitchGain (at gains i) (at exp i) (at ex i) (at ep i))
+unfoldable pub pitch_gains : List Float → List Float → List Float → List Float → List Float
+pitch_gains gains exp ex ep = tab 22 (λ i. band_pitch_gain (at gains i) (at exp i) (at ex i) (at ep i))
 
 -- Rust: r[i] = (ex[i] / (1e-8 + new_e[i])).sqrt(). `after` is new_e.
 unfoldable pub renormalised : List Float → List Float → List Float
 renormalised ex after = tab 22 (λ i. ratio (at ex i) (at after i))
 
 -- Rust: x += p * rf, bin by bin.
-unfoldable pub pitchAdded : List Float → List Float → List Float → List Float
-pitchAdded x p rf = tab 961 (λ n. at x n ⊕ at p n ⊗ at rf (bin_of n))
+unfoldable pub pitch_added : List Float → List Float → List Float → List Float
+pitch_added x p rf = tab 961 (λ n. at x n ⊕ at p n ⊗ at rf (bin_of n))
 
 -- Rust: x *= gain, bin by bin.
 unfoldable pub applied : List Float → List Float → List Float
@@ -41,12 +41,12 @@ applied x gains = tab 961 (λ n. at x n ⊗ at gains (bin_of n))
 
 -- x with the energies of its bands brought back to ex.
 unfoldable pub restored : List Float → List Float → List Float
-restored x ex = applied x (bandGain (renormalised ex (bandCorr x x)))
+restored x ex = applied x (band_gain (renormalised ex (band_corr x x)))
 
 -- The whole filter: the lagged spectrum p is added to x in proportion to the pitch, and the energies of the bands are
 -- restored.
-unfoldable pub pitchFiltered : List Float → List Float → List Float → List Float → List Float → List Float → List Float
-pitchFiltered x p gains exp ex ep = restored (pitchAdded x p (bandGain (pitchGains gains exp ex ep))) ex
+unfoldable pub pitch_filtered : List Float → List Float → List Float → List Float → List Float → List Float → List Float
+pitch_filtered x p gains exp ex ep = restored (pitch_added x p (band_gain (pitch_gains gains exp ex ep))) ex
 
 -- All lengths fit.
 pub record PitchFilterFits (x p gains exp ex ep : ℕ) : Type 0 where
@@ -61,7 +61,7 @@ pub record PitchFilterFits (x p gains exp ex ep : ℕ) : Type 0 where
   -- The energies of the spectrum.
   pub energies : ex ≡ 22
   -- The energies of the lagged spectrum.
-  pub laggedEnergies : ep ≡ 22
+  pub lagged_energies : ep ≡ 22
 
 -- Both lengths fit.
 pub record ApplyFits (x gains : ℕ) : Type 0 where

@@ -5,7 +5,7 @@ use Rattle.features.specs.declared.cepstra.Delta.{Delta}
 use Rattle.features.specs.declared.cepstra.Delta.TheVariants.{Smoothed, Slope, Bend}
 
 -- What the code's `Delta` stands for.
-abbrev pub deltaOf : Delta → Float → Float → Float → Float
-deltaOf Smoothed = smoothed
-deltaOf Slope = slope
-deltaOf Bend = bend
+abbrev pub delta_of : Delta → Float → Float → Float → Float
+delta_of Smoothed = smoothed
+delta_of Slope = slope
+delta_of Bend = bend

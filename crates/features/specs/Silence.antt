@@ -5,29 +5,29 @@ use Rattle.rules.specs.F32.{◌⊕◌, at, f32}
 use Rattle.features.specs.declared.Sound.{Sound}
 
 -- Rust: e += ex[i].
-abbrev pub energyStep : List Float → ℕ → Float → Float
-energyStep ex i e = e ⊕ at ex i
+abbrev pub energy_step : List Float → ℕ → Float → Float
+energy_step ex i e = e ⊕ at ex i
 
 -- The sum of the band energies.
 unfoldable pub energy : List Float → Float
-energy ex = loop 22 (energyStep ex) (f32 0)
+energy ex = loop 22 (energy_step ex) (f32 0)
 
 -- Rust: e < 0.04. A NaN is not silent.
-abbrev pub isSilent : Float → Bool
-isSilent e = lt e (f32 0x3D23D70A)
+abbrev pub is_silent : Float → Bool
+is_silent e = lt e (f32 0x3D23D70A)
 
 -- The number that document 01 gives an answer: 0, or the number of the refusal.
-abbrev pub soundNumber : Sound → ℕ
-soundNumber Sound.Silent = 0
-soundNumber (Sound.Heard e) = 0
-soundNumber (Sound.Refused n) = n
+abbrev pub sound_number : Sound → ℕ
+sound_number Sound.Silent = 0
+sound_number (Sound.Heard e) = 0
+sound_number (Sound.Refused n) = n
 
 -- The values that document 01 gives an answer: the sum of the energies of a heard frame.
-abbrev pub soundValues : Sound → List Float
-soundValues Sound.Silent = []
-soundValues (Sound.Heard e) = e ∷ []
-soundValues (Sound.Refused n) = []
+abbrev pub sound_values : Sound → List Float
+sound_values Sound.Silent = []
+sound_values (Sound.Heard e) = e ∷ []
+sound_values (Sound.Refused n) = []
 
 -- Whether a frame with this sum of energies is heard.
-unfoldable pub soundOf : Float → Sound
-soundOf e = cond (isSilent e) Sound.Silent (Sound.Heard e)
+unfoldable pub sound_of : Float → Sound
+sound_of e = cond (is_silent e) Sound.Silent (Sound.Heard e)

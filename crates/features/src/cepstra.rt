@@ -3,15 +3,15 @@ ghost use Rattle.std.specs.Prelude.{◌≡◌, ◌≤◌, length};
 ghost use Rattle.rules.specs.Place.{put};
 ghost use Rattle.rules.specs.F32.{part};
 ghost use Rattle.features.specs.Features.{laid};
-ghost use Rattle.features.specs.Cepstra.{followLogs, cepstrum, row, back, deltas, cepstralDistance, nearestStep};
+ghost use Rattle.features.specs.Cepstra.{follow_logs, cepstrum, row, back, deltas, cepstral_distance, nearest_step};
 ghost use Rattle.features.specs.Cepstra.{nearest, variability};
-ghost use Rattle.features.specs.Private.{deltaOf};
+ghost use Rattle.features.specs.Private.{delta_of};
 
 // Smooths the logarithms: none is more than 7 below the largest before it, and from band to band they fall by at most
 // 1.5.
 fn follow_logs(ly: &mut [f32], logs: &[f32])
     requires { (length ly.old ≡ 22) × (length logs.now ≡ 22) }
-    ensures { ly.new ≡ followLogs logs.now }
+    ensures { ly.new ≡ follow_logs logs.now }
 {
     let mut log_max = -2.0f32;
     let mut follow = -2.0f32;
@@ -68,7 +68,7 @@ enum Delta {
 
 // One of these for three numbers, the newest first.
 fn combine(kind: Delta, ceps0: f32, ceps1: f32, ceps2: f32) -> f32
-    ensures { result ≡ deltaOf kind ceps0 ceps1 ceps2 }
+    ensures { result ≡ delta_of kind ceps0 ceps1 ceps2 }
 {
     match kind {
         Delta::Smoothed => ceps0 + ceps1 + ceps2,
@@ -80,7 +80,7 @@ fn combine(kind: Delta, ceps0: f32, ceps1: f32, ceps2: f32) -> f32
 // One of these at the first six places of three rows.
 fn delta_rows(out: &mut [f32], kind: Delta, mem: &[f32], c0: usize, c1: usize, c2: usize)
     requires { (length out.old ≡ 6) × (length mem.now ≡ 176) × (c0 ≤ 7) × (c1 ≤ 7) × (c2 ≤ 7) }
-    ensures { out.new ≡ deltas (deltaOf kind) mem.now c0 c1 c2 }
+    ensures { out.new ≡ deltas (delta_of kind) mem.now c0 c1 c2 }
 {
     for i in 0..6 {
         let ceps0 = mem[c0 * 22 + i];
@@ -93,7 +93,7 @@ fn delta_rows(out: &mut [f32], kind: Delta, mem: &[f32], c0: usize, c1: usize, c
 // The squared distance of two rows.
 fn row_distance(mem: &[f32], i: usize, j: usize) -> f32
     requires { (length mem.now ≡ 176) × (i ≤ 7) × (j ≤ 7) }
-    ensures { result ≡ cepstralDistance mem.now i j }
+    ensures { result ≡ cepstral_distance mem.now i j }
 {
     let mut dist = 0.0f32;
     for k in 0..22 {
@@ -106,7 +106,7 @@ fn row_distance(mem: &[f32], i: usize, j: usize) -> f32
 // The smaller of `least` and the distance of rows i and j, if i and j differ.
 fn nearer(mem: &[f32], i: usize, j: usize, least: f32) -> f32
     requires { (length mem.now ≡ 176) × (i ≤ 7) × (j ≤ 7) }
-    ensures { result ≡ nearestStep mem.now i j least }
+    ensures { result ≡ nearest_step mem.now i j least }
 {
     if j == i {
         return least;

@@ -1,6 +1,6 @@
 // The features of a heard frame.
 ghost use Rattle.std.specs.Prelude.{◌≡◌, ◌≤◌, length};
-ghost use Rattle.features.specs.Features.{normalised, normalisedCorr, pitchFeatures, withCepstrum, featuresOf};
+ghost use Rattle.features.specs.Features.{normalised, normalised_corr, pitch_features, with_cepstrum, features_of};
 
 // Divides the correlation of each band by the root of the product of both energies.
 fn normalise(exp: &mut [f32], ex: &[f32], ep: &[f32])
@@ -17,7 +17,7 @@ pub(crate) fn correlate(exp: &mut [f32], x: &[f32], p: &[f32], ex: &[f32], ep: &
     requires { (length exp.old ≡ 22) × (length x.now ≡ 961) × (length p.now ≡ 961) × (length ex.now ≡ 22)
         × (length ep.now ≡ 22) }
     ensures { exp.new
-        ≡ normalisedCorr x.now p.now ex.now ep.now }
+        ≡ normalised_corr x.now p.now ex.now ep.now }
 {
     bands::compute_band_corr(exp, x, p);
     normalise(exp, ex, ep);
@@ -26,7 +26,7 @@ pub(crate) fn correlate(exp: &mut [f32], x: &[f32], p: &[f32], ex: &[f32], ep: &
 // The seven features that come from the pitch.
 fn pitch_features(out: &mut [f32], exp: &[f32], lag: f32)
     requires { (length out.old ≡ 7) × (length exp.now ≡ 22) }
-    ensures { out.new ≡ pitchFeatures exp.now lag }
+    ensures { out.new ≡ pitch_features exp.now lag }
 {
     let mut tmp = [0.0f32; 22];
     bands::dct(&mut tmp, exp);
@@ -51,8 +51,8 @@ pub(crate) fn fill_features(
     requires { (length features.old ≡ 42) × (length mem.old ≡ 176) × (index ≤ 7) × (length exp.now ≡ 22)
         × (length logs.now ≡ 22) }
     ensures features_after { features.new
-        ≡ featuresOf exp.now lag logs.now mem.old index }
-    ensures mem_after { mem.new ≡ withCepstrum logs.now mem.old index }
+        ≡ features_of exp.now lag logs.now mem.old index }
+    ensures mem_after { mem.new ≡ with_cepstrum logs.now mem.old index }
 {
     pitch_features(&mut features[34..41], exp, lag);
     crate::cepstra::cepstrum_of(&mut features[0..22], logs);

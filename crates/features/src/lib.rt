@@ -2,10 +2,10 @@
 // 5, and changes nothing, exactly if a length does not fit.
 ghost use Rattle.std.specs.Prelude.{◌≡◌, length};
 ghost use Rattle.rules.specs.Leaf.{Leaf, ◌leaving◌};
-ghost use Rattle.features.specs.Silence.{energy, soundOf};
-ghost use Rattle.features.specs.Features.{normalisedCorr, withCepstrum, featuresOf, FeaturesFit};
+ghost use Rattle.features.specs.Silence.{energy, sound_of};
+ghost use Rattle.features.specs.Features.{normalised_corr, with_cepstrum, features_of, FeaturesFit};
 ghost use Rattle.features.specs.Gains.{gained, GainsFit};
-ghost use Rattle.features.specs.Pitch.{applied, ApplyFits, pitchFiltered, PitchFilterFits};
+ghost use Rattle.features.specs.Pitch.{applied, ApplyFits, pitch_filtered, PitchFilterFits};
 
 mod cepstra;
 mod heard;
@@ -24,7 +24,7 @@ pub enum Sound {
 
 // Silent if the sum is below 0.04. A NaN is not.
 fn sound_of(e: f32) -> Sound
-    ensures { result ≡ soundOf e }
+    ensures { result ≡ sound_of e }
 {
     if e < 0.04 {
         return Sound::Silent;
@@ -34,7 +34,7 @@ fn sound_of(e: f32) -> Sound
 
 // Whether a frame is heard, by its 22 band energies.
 pub fn listen(ex: &[f32]) -> Sound
-    ensures { Leaf (length ex.now ≡ 22) result (soundOf (energy ex.now)) (Sound.Refused 5) }
+    ensures { Leaf (length ex.now ≡ 22) result (sound_of (energy ex.now)) (Sound.Refused 5) }
 {
     if ex.len() != 22 {
         return Sound::Refused(5);
@@ -62,14 +62,14 @@ pub fn compute_features(
 ) -> u32
     ensures { Leaf (FeaturesFit (length features.old) (length exp.old)
         (length mem.old) index
-        (length x.entry.now) (length p.now) (length ex.now) (length ep.now)
+        (length x.now) (length p.now) (length ex.now) (length ep.now)
         (length logs.now))
-        (result leaving (λ x. x.now) features.exit leaving (λ x. x.now) exp.exit leaving (λ x. x.now) mem.exit)
-        (0 leaving featuresOf (normalisedCorr x.entry.now p.now ex.now ep.now) lag
+        (result leaving features.new leaving exp.new leaving mem.new)
+        (0 leaving features_of (normalised_corr x.now p.now ex.now ep.now) lag
         logs.now mem.old index
-        leaving normalisedCorr x.entry.now p.now ex.now ep.now
-        leaving withCepstrum logs.now mem.old index)
-        (5 leaving (λ x. x.now) features.entry leaving (λ x. x.now) exp.entry leaving (λ x. x.now) mem.entry) }
+        leaving normalised_corr x.now p.now ex.now ep.now
+        leaving with_cepstrum logs.now mem.old index)
+        (5 leaving features.old leaving exp.old leaving mem.old) }
 {
     if features.len() != 42 {
         return 5;
@@ -106,9 +106,9 @@ pub fn compute_features(
 // Raises each gain to at least 0.6 times the remembered one, and remembers it.
 pub fn hold_gains(g: &mut [f32], last: &mut [f32]) -> u32
     ensures { Leaf (GainsFit (length g.old) (length last.old))
-        (result leaving (λ x. x.now) g.exit leaving (λ x. x.now) last.exit)
+        (result leaving g.new leaving last.new)
         (0 leaving gained g.old last.old leaving gained g.old last.old)
-        (5 leaving (λ x. x.now) g.entry leaving (λ x. x.now) last.entry) }
+        (5 leaving g.old leaving last.old) }
 {
     if g.len() != 22 {
         return 5;
@@ -127,10 +127,10 @@ pub fn hold_gains(g: &mut [f32], last: &mut [f32]) -> u32
 
 // Multiplies each bin of a spectrum by its gain.
 pub fn apply_gains(x: &mut [f32], gains: &[f32]) -> u32
-    ensures { Leaf (ApplyFits (length x.entry.now) (length gains.now))
-        (result leaving (λ x. x.now) x.exit)
-        (0 leaving applied x.entry.now gains.now)
-        (5 leaving (λ x. x.now) x.entry) }
+    ensures { Leaf (ApplyFits (length x.old) (length gains.now))
+        (result leaving x.new)
+        (0 leaving applied x.old gains.now)
+        (5 leaving x.old) }
 {
     if x.len() != 961 {
         return 5;
@@ -154,14 +154,14 @@ pub fn pitch_filter(
     ex: &[f32],
     ep: &[f32],
 ) -> u32
-    ensures { Leaf (PitchFilterFits (length x.entry.now) (length p.now)
+    ensures { Leaf (PitchFilterFits (length x.old) (length p.now)
         (length gains.now)
         (length exp.now) (length ex.now) (length ep.now))
-        (result leaving (λ x. x.now) x.exit)
-        (0 leaving pitchFiltered x.entry.now p.now gains.now exp.now
+        (result leaving x.new)
+        (0 leaving pitch_filtered x.old p.now gains.now exp.now
         ex.now
         ep.now)
-        (5 leaving (λ x. x.now) x.entry) }
+        (5 leaving x.old) }
 {
     if x.len() != 961 {
         return 5;

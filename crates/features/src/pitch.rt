@@ -1,8 +1,8 @@
 // The steps of `pitch_filter`.
 ghost use Rattle.std.specs.Prelude.{◌≡◌, length};
-ghost use Rattle.features.specs.Pitch.{strength, ratio, bandPitchGain, pitchGains, renormalised, pitchAdded};
+ghost use Rattle.features.specs.Pitch.{strength, ratio, band_pitch_gain, pitch_gains, renormalised, pitch_added};
 ghost use Rattle.features.specs.Pitch.{restored};
-ghost use Rattle.features.specs.Pitch.{pitchFiltered, PitchFilterFits};
+ghost use Rattle.features.specs.Pitch.{pitch_filtered, PitchFilterFits};
 
 // How much of a band is pitch, by its correlation and its gain.
 fn strength_of(exp: f32, gain: f32) -> f32
@@ -25,7 +25,7 @@ fn energy_ratio(ex: f32, e: f32) -> f32
 
 // How much of the lagged signal is added in a band.
 fn gain_of(exp: f32, gain: f32, ex: f32, ep: f32) -> f32
-    ensures { result ≡ bandPitchGain gain exp ex ep }
+    ensures { result ≡ band_pitch_gain gain exp ex ep }
 {
     numbers::sqrt(numbers::clamp(strength_of(exp, gain), 0.0, 1.0)) * energy_ratio(ex, ep)
 }
@@ -35,7 +35,7 @@ fn gains_of(r: &mut [f32], exp: &[f32], gains: &[f32], ex: &[f32], ep: &[f32])
     requires { (length r.old ≡ 22) × (length exp.now ≡ 22) × (length gains.now ≡ 22) × (length ex.now ≡ 22)
         × (length ep.now ≡ 22) }
     ensures { r.new
-        ≡ pitchGains gains.now exp.now ex.now ep.now }
+        ≡ pitch_gains gains.now exp.now ex.now ep.now }
 {
     for i in 0..22 {
         r[i] = gain_of(exp[i], gains[i], ex[i], ep[i]);
@@ -55,7 +55,7 @@ fn renormalise(e: &mut [f32], ex: &[f32])
 // Adds the lagged spectrum to the spectrum, each bin times its factor.
 fn add_pitch(x: &mut [f32], p: &[f32], rf: &[f32])
     requires { (length x.old ≡ 961) × (length p.now ≡ 961) × (length rf.now ≡ 481) }
-    ensures { x.new ≡ pitchAdded x.old p.now rf.now }
+    ensures { x.new ≡ pitch_added x.old p.now rf.now }
 {
     for n in 0..961 {
         x[n] = x[n] + p[n] * rf[(n + 1) / 2];
@@ -89,7 +89,7 @@ pub(crate) fn filter(
         (length ep.now) }
     requires r_len { (length r.old ≡ 22) × (length rf.old ≡ 481) }
     ensures { x.new
-        ≡ pitchFiltered x.old p.now gains.now exp.now
+        ≡ pitch_filtered x.old p.now gains.now exp.now
         ex.now ep.now }
 {
     gains_of(r, exp, gains, ex, ep);

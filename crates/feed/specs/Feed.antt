@@ -7,16 +7,16 @@ use Rattle.std.specs.Float.Ieee.{eq}
 use Rattle.rules.specs.F32.{f32, at}
 use Rattle.rules.specs.Refusals.{Row, ◌when◌, refusing}
 use Rattle.rules.specs.Tab.{tab}
-use Rattle.frame.specs.Written.{Written, from, front, numbersIn, firstIn}
+use Rattle.frame.specs.Written.{Written, from, front, numbers_in, first_in}
 use Rattle.frame.specs.declared.Reply.TheVariants.{Refused}
-use Rattle.pieces.specs.Pieces.{completes, pieceFits}
+use Rattle.pieces.specs.Pieces.{completes, piece_fits}
 use Rattle.desk.specs.declared.Answer.{Answer}
 use Rattle.desk.specs.declared.Record.{Record}
 use Rattle.desk.specs.Gate.{PIECE, side_of, gate}
 use Rattle.frame.specs.Effect.{Effect, refusal}
 use Rattle.whole.specs.Whole.{take}
 use Rattle.pcm.specs.Pcm.{width, unpacked, packed}
-use Rattle.sheet.specs.Sheet.{recordsOf}
+use Rattle.sheet.specs.Sheet.{records_of}
 
 -- ---- a block
 
@@ -32,20 +32,20 @@ block_of bytes format channels channel =
     record { bytes = bytes; format = format; channels = channels; channel = channel }
 
 -- whole samples of all channels, and such a channel among them
-abbrev pub wholeSamples : ℕ → ℕ → ℕ → ℕ → Bool
-wholeSamples bytes format channels channel =
+abbrev pub whole_samples : ℕ → ℕ → ℕ → ℕ → Bool
+whole_samples bytes format channels channel =
     ltb 0 (width format) && (leb channels 65535 && (ltb channel channels && eqb (bytes % (channels * width format)) 0))
 
 -- how many samples of a channel there are in so many bytes; none where they are no block
-unfoldable pub samplesIn : ℕ → ℕ → ℕ → ℕ → ℕ
-samplesIn bytes format channels channel =
-    cond (wholeSamples bytes format channels channel) (bytes / (channels * width format)) 0
+unfoldable pub samples_in : ℕ → ℕ → ℕ → ℕ → ℕ
+samples_in bytes format channels channel =
+    cond (whole_samples bytes format channels channel) (bytes / (channels * width format)) 0
 
-abbrev pub blockSize : Block → ℕ
-blockSize b = samplesIn (length b.bytes) b.format b.channels b.channel
+abbrev pub block_size : Block → ℕ
+block_size b = samples_in (length b.bytes) b.format b.channels b.channel
 
-abbrev pub samplesOf : Block → List Float
-samplesOf b = unpacked (blockSize b) b.bytes b.format b.channels b.channel
+abbrev pub samples_of : Block → List Float
+samples_of b = unpacked (block_size b) b.bytes b.format b.channels b.channel
 
 -- ---- what refuses it
 
@@ -55,11 +55,11 @@ ROOM = 4320
 
 -- the gate's number, 1 to 4; then 5, but for 1 to 4,096 samples, and room for 960 bytes, a record of 8 bytes and three
 -- answers of each frame that they complete. Behind these rows the take has 7 to 9
-abbrev pub feedRows : ℕ → ℕ → ℕ → ℕ → ℕ → ℕ → List Row
-feedRows number waiting size cleaned records answers =
+abbrev pub feed_rows : ℕ → ℕ → ℕ → ℕ → ℕ → ℕ → List Row
+feed_rows number waiting size cleaned records answers =
     let frames = completes waiting size in
     number when not (eqb number 0)
-    ∷ 5 when not (pieceFits waiting size ROOM 22)
+    ∷ 5 when not (piece_fits waiting size ROOM 22)
     ∷ 5 when not (leb (960 * frames) cleaned)
     ∷ 5 when not (leb (8 * frames) records)
     ∷ 5 when not (leb (3 * frames) answers)
@@ -68,29 +68,29 @@ feedRows number waiting size cleaned records answers =
 -- ---- what it gives
 
 -- a frame's entry in the side sheet: its number, from 0 at the opening, and 2^32 more where it was heard
-abbrev pub frameEntry : ℕ → ℕ → Float → ℕ
-frameEntry frame j heard = (frame + j) % 4294967296 + cond (eq heard (f32 0)) 0 4294967296
+abbrev pub frame_entry : ℕ → ℕ → Float → ℕ
+frame_entry frame j heard = (frame + j) % 4294967296 + cond (eq heard (f32 0)) 0 4294967296
 
 -- those of frames in a row, the first of them with this number, by the three answers of each
-abbrev pub frameEntries : ℕ → List Float → List ℕ
-frameEntries frame answers = tab (length answers / 3) (λ j. frameEntry frame j (at answers (3 * j)))
+abbrev pub frame_entries : ℕ → List Float → List ℕ
+frame_entries frame answers = tab (length answers / 3) (λ j. frame_entry frame j (at answers (3 * j)))
 
 -- and their records in the side sheet, 8 bytes each, on this side
 abbrev pub noted_of : ℕ → ℕ → List Float → List ℕ
-noted_of side frame answers = recordsOf side (frameEntries frame answers)
+noted_of side frame answers = records_of side (frame_entries frame answers)
 
 -- of what a take writes, samples and answers: the answers, the samples packed, and a record for each frame; of nothing,
 -- nothing
-abbrev pub fedOf : ℕ → ℕ → List Written → List Written
-fedOf side frame [] = []
-fedOf side frame (out ∷ told) =
-    from 0 (firstIn told) ∷ front (packed (numbersIn out)) ∷ front (noted_of side frame (firstIn told)) ∷ []
+abbrev pub fed_of : ℕ → ℕ → List Written → List Written
+fed_of side frame [] = []
+fed_of side frame (out ∷ told) =
+    from 0 (first_in told) ∷ front (packed (numbers_in out)) ∷ front (noted_of side frame (first_in told)) ∷ []
 
-abbrev pub fedBy : ℕ → ℕ → Effect Answer → Effect Answer
-fedBy side frame t = record { answer = t.answer; kept = t.kept; written = fedOf side frame t.written }
+abbrev pub fed_by : ℕ → ℕ → Effect Answer → Effect Answer
+fed_by side frame t = record { answer = t.answer; kept = t.kept; written = fed_of side frame t.written }
 
 unfoldable pub feed : ℕ → ℕ → Record → List Float → Block → List ℕ → ℕ → ℕ → ℕ → Effect Answer
 feed n bench rec store b model cleaned records answers =
-    refusing (feedRows (gate n bench rec (length store) PIECE) rec.waiting (blockSize b) cleaned records answers)
+    refusing (feed_rows (gate n bench rec (length store) PIECE) rec.waiting (block_size b) cleaned records answers)
     (λ r. refusal (record { reply = Refused r; rec = rec }) store)
-    (fedBy (side_of bench) rec.frame (take n bench rec store (samplesOf b) model ROOM answers))
+    (fed_by (side_of bench) rec.frame (take n bench rec store (samples_of b) model ROOM answers))

@@ -1,12 +1,12 @@
 -- What is claimed of a feed by itself. The proofs are in proofs/Ranged.antt and proofs/Own.antt.
 use Rattle.rules.specs.Common.{ℕ, ◌≤◌, ◌<◌, List, [], map, ◌≡◌, length, get_or, Float}
 use Rattle.pcm.specs.Pcm.{width}
-use Rattle.pcm.specs.Laws.{interleaved, Recorded, sampleOf}
-use Rattle.feed.specs.Feed.{Block, samplesOf, frameEntry}
+use Rattle.pcm.specs.Laws.{interleaved, Recorded, sample_of}
+use Rattle.feed.specs.Feed.{Block, samples_of, frame_entry}
 
 -- an entry is one that the side sheet takes
 abbrev pub EntrySmall : Type 0
-EntrySmall = (frame j : ℕ) (heard : Float) → frameEntry frame j heard < 8589934592
+EntrySmall = (frame j : ℕ) (heard : Float) → frame_entry frame j heard < 8589934592
 
 -- a block is the bytes of a recording, and the bench's own channel in it is this list of samples
 pub record Carries (b : Block) (own : List (List ℕ)) : Type 0 where
@@ -22,4 +22,4 @@ pub record Carries (b : Block) (own : List (List ℕ)) : Type 0 where
 
 -- then the samples that are taken from the block are those of this list
 abbrev pub OwnSamples : Type 0
-OwnSamples = (b : Block) (own : List (List ℕ)) → Carries b own → samplesOf b ≡ map (sampleOf b.format) own
+OwnSamples = (b : Block) (own : List (List ℕ)) → Carries b own → samples_of b ≡ map (sample_of b.format) own

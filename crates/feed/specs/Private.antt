@@ -1,13 +1,13 @@
 -- For the parts of the code.
 use Rattle.rules.specs.Common.{ℕ, ◌+◌, ◌*◌, ◌≤◌, Bool, ◌&&◌, leb}
-use Rattle.pieces.specs.Pieces.{completes, pieceFits}
+use Rattle.pieces.specs.Pieces.{completes, piece_fits}
 use Rattle.feed.specs.Feed.{ROOM}
 
 -- no row of 5 refuses a block of so many samples
 abbrev pub fitting : ℕ → ℕ → ℕ → ℕ → ℕ → Bool
 fitting waiting size cleaned records answers =
     let frames = completes waiting size in
-    pieceFits waiting size ROOM 22
+    piece_fits waiting size ROOM 22
     && (leb (960 * frames) cleaned && (leb (8 * frames) records && leb (3 * frames) answers))
 
 -- nothing refuses so many samples but the take: so many wait before them; the lengths of what is lent

@@ -5,7 +5,7 @@ ghost use Rattle.std.specs.Prelude.{[], ◌∷◌, length};
 ghost use Rattle.desk.specs.Gate.{BENCHES, side_of};
 ghost use Rattle.frame.specs.Effect.{WorkedBoth};
 ghost use Rattle.whole.specs.Whole.{take};
-ghost use Rattle.feed.specs.Feed.{ROOM, block_of, fedBy, feed};
+ghost use Rattle.feed.specs.Feed.{ROOM, block_of, fed_by, feed};
 ghost use Rattle.feed.specs.Private.{Ready};
 
 use desk::{Answer, Bench, Record};
@@ -28,7 +28,7 @@ fn clean(
     requires { Ready rec.waiting (length samples.now) (length cleaned.old) (length records.old)
         (length answers.old) }
     ensures { WorkedBoth
-        (fedBy (side_of side.0) rec.frame
+        (fed_by (side_of side.0) rec.frame
         (take BENCHES side.0 rec store.old samples.now model.now ROOM
         (length answers.old)))
         result store.new (answers.old ∷ []) (answers.new ∷ [])

@@ -3,14 +3,14 @@ ghost use Rattle.std.specs.Prelude.{◌≡◌, true, ◌*◌, ◌≤◌, length}
 ghost use Rattle.rules.specs.F32.{at, part};
 ghost use Rattle.rules.specs.Tab.{tab};
 ghost use Rattle.pcm.specs.Pcm.{packed};
-ghost use Rattle.sheet.specs.Sheet.{recordsOf};
-ghost use Rattle.sheet.specs.Written.{knownKinds};
-ghost use Rattle.frame.specs.Written.{atFront};
-ghost use Rattle.feed.specs.Feed.{frameEntry};
+ghost use Rattle.sheet.specs.Sheet.{records_of};
+ghost use Rattle.sheet.specs.Written.{known_kinds};
+ghost use Rattle.frame.specs.Written.{at_front};
+ghost use Rattle.feed.specs.Feed.{frame_entry};
 
 fn entry_of(frame: u32, j: usize, heard: f32) -> u64
     requires { j ≤ 9 }
-    ensures { result ≡ frameEntry frame j heard }
+    ensures { result ≡ frame_entry frame j heard }
 {
     let number = (frame as u64 + j as u64) % 0x1_0000_0000;
     if heard == 0.0 {
@@ -23,7 +23,7 @@ fn entry_of(frame: u32, j: usize, heard: f32) -> u64
 fn note(entries: &mut [u64], frame: u32, answers: &[f32])
     requires { (length entries.old ≤ 9) × (3 * length entries.old ≤ length answers.now) }
     ensures { entries.new
-        ≡ tab (length entries.old) (λ j. frameEntry frame j (at answers.now (3 * j))) }
+        ≡ tab (length entries.old) (λ j. frame_entry frame j (at answers.now (3 * j))) }
 {
     for j in 0..entries.len() {
         entries[j] = entry_of(frame, j, answers[3 * j]);
@@ -33,8 +33,8 @@ fn note(entries: &mut [u64], frame: u32, answers: &[f32])
 // The records of these entries, into the front of a buffer.
 fn note_down(records: &mut [u8], side: u32, entries: &[u64])
     requires { (side ≤ 1) × (length entries.now ≤ 9) × (8 * length entries.now ≤ length records.old)
-        × (knownKinds entries.now ≡ true) }
-    ensures { records.new ≡ atFront (recordsOf side entries.now) records.old }
+        × (known_kinds entries.now ≡ true) }
+    ensures { records.new ≡ at_front (records_of side entries.now) records.old }
 {
     let mut counted = [0u64; 2];
     sheet::parts::records(&mut counted, records, side, entries);
@@ -45,7 +45,7 @@ fn note_each(records: &mut [u8], side: u32, frame: u32, answers: &[f32], frames:
     requires { (side ≤ 1) × (frames ≤ 9) × (8 * frames ≤ length records.old)
         × (3 * frames ≤ length answers.now) }
     ensures { records.new
-        ≡ atFront (recordsOf side (tab frames (λ j. frameEntry frame j (at answers.now (3 * j)))))
+        ≡ at_front (records_of side (tab frames (λ j. frame_entry frame j (at answers.now (3 * j)))))
         records.old }
 {
     let mut places = [0u64; 9];
@@ -67,9 +67,9 @@ pub(crate) fn hand_out(
     requires { (frames ≤ 9) × (960 * frames ≤ length cleaned.old) × (8 * frames ≤ length records.old)
         × (480 * frames ≤ length out.now) × (3 * frames ≤ length answers.now) × (side ≤ 1) }
     ensures { (cleaned.new
-        ≡ atFront (packed (part 0 (480 * frames) out.now)) cleaned.old)
+        ≡ at_front (packed (part 0 (480 * frames) out.now)) cleaned.old)
         × (records.new
-        ≡ atFront (recordsOf side (tab frames (λ j. frameEntry frame j (at answers.now (3 * j)))))
+        ≡ at_front (records_of side (tab frames (λ j. frame_entry frame j (at answers.now (3 * j)))))
         records.old) }
 {
     let bytes = 960 * frames;

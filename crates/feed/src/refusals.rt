@@ -1,11 +1,11 @@
 // What a block is refused for.
 ghost use Rattle.std.specs.Prelude.{◌≡◌};
-ghost use Rattle.feed.specs.Feed.{samplesIn};
+ghost use Rattle.feed.specs.Feed.{samples_in};
 ghost use Rattle.feed.specs.Private.{fitting};
 
 // How many samples of a channel there are in so many bytes; none where they are no block.
 pub(crate) fn samples_in(bytes: usize, format: u32, channels: usize, channel: usize) -> usize
-    ensures { result ≡ samplesIn bytes format channels channel }
+    ensures { result ≡ samples_in bytes format channels channel }
 {
     let width = pcm::width_of(format);
     if width == 0 {

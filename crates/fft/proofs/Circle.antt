@@ -11,177 +11,177 @@ use Rattle.fft.proofs.Solver.{Expr, var, nil, unit, add, sub, mul, exprs, gains,
 
 -- ---- over any operations
 module _ {A : Type 0} (o : Ops A) where
-  abbrev pub zeroC : Complex A
-  zeroC = record { re = o.nought; im = o.nought }
+  abbrev pub zero_c : Complex A
+  zero_c = record { re = o.nought; im = o.nought }
 
-  abbrev pub plusC : Complex A → Complex A → Complex A
-  plusC x y = record { re = o.plus x.re y.re; im = o.plus x.im y.im }
+  abbrev pub plus_c : Complex A → Complex A → Complex A
+  plus_c x y = record { re = o.plus x.re y.re; im = o.plus x.im y.im }
 
-  abbrev pub timesC : Complex A → Complex A → Complex A
-  timesC x y = record {
+  abbrev pub times_c : Complex A → Complex A → Complex A
+  times_c x y = record {
     re = o.minus (o.times x.re y.re) (o.times x.im y.im);
     im = o.plus (o.times x.re y.im) (o.times x.im y.re);
   }
 
-abbrev pub pairE : ℕ → ℕ → Complex Expr
-pairE i j = record { re = var i; im = var j }
+abbrev pub pair_e : ℕ → ℕ → Complex Expr
+pair_e i j = record { re = var i; im = var j }
 
-abbrev pub oneE : Complex Expr
-oneE = record { re = unit; im = nil }
+abbrev pub one_e : Complex Expr
+one_e = record { re = unit; im = nil }
 
 module _ {A : Type 0} (o : Ops A) (R : Ring o) where
-  abbrev pub oneC : Complex A
-  oneC = record { re = R.one; im = o.nought }
+  abbrev pub one_c : Complex A
+  one_c = record { re = R.one; im = o.nought }
 
   abbrev pub env : List A → ℕ → A
   env l i = get_or l i o.nought
 
-  abbrev pub evalC : List A → Complex Expr → Complex A
-  evalC l x = record { re = eval o R (env l) x.re; im = eval o R (env l) x.im }
+  abbrev pub eval_c : List A → Complex Expr → Complex A
+  eval_c l x = record { re = eval o R (env l) x.re; im = eval o R (env l) x.im }
 
   pub both : {a b c d : A} → a ≡ b → c ≡ d → ◌≡◌ {A = Complex A} (record { re = a; im = c }) (record { re = b; im = d })
   both p q = cc
 
-  pub solveC : (l : List A) (a b : Complex Expr)
+  pub solve_c : (l : List A) (a b : Complex Expr)
       → ordered (gains a.re ++ losses b.re) ≡ ordered (gains b.re ++ losses a.re)
-      → ordered (gains a.im ++ losses b.im) ≡ ordered (gains b.im ++ losses a.im) → evalC l a ≡ evalC l b
-  solveC l a b p q = both (solve o R (env l) a.re b.re p) (solve o R (env l) a.im b.im q)
+      → ordered (gains a.im ++ losses b.im) ≡ ordered (gains b.im ++ losses a.im) → eval_c l a ≡ eval_c l b
+  solve_c l a b p q = both (solve o R (env l) a.re b.re p) (solve o R (env l) a.im b.im q)
 
   -- ---- laws of complex numbers
   module _ (x y z : Complex A) where
     abbrev six : List A
     six = x.re ∷ x.im ∷ y.re ∷ y.im ∷ z.re ∷ z.im ∷ []
 
-    pub plus-assocC : plusC o (plusC o x y) z ≡ plusC o x (plusC o y z)
-    plus-assocC = both (R.plus_assoc x.re y.re z.re) (R.plus_assoc x.im y.im z.im)
+    pub plus_assoc_c : plus_c o (plus_c o x y) z ≡ plus_c o x (plus_c o y z)
+    plus_assoc_c = both (R.plus_assoc x.re y.re z.re) (R.plus_assoc x.im y.im z.im)
 
-    pub times-assocC : timesC o (timesC o x y) z ≡ timesC o x (timesC o y z)
-    times-assocC =
-        solveC six (timesC exprs (timesC exprs (pairE 0 1) (pairE 2 3)) (pairE 4 5))
-        (timesC exprs (pairE 0 1) (timesC exprs (pairE 2 3) (pairE 4 5))) refl refl
+    pub times_assoc_c : times_c o (times_c o x y) z ≡ times_c o x (times_c o y z)
+    times_assoc_c =
+        solve_c six (times_c exprs (times_c exprs (pair_e 0 1) (pair_e 2 3)) (pair_e 4 5))
+        (times_c exprs (pair_e 0 1) (times_c exprs (pair_e 2 3) (pair_e 4 5))) refl refl
 
-    pub plus-timesC : timesC o (plusC o x y) z ≡ plusC o (timesC o x z) (timesC o y z)
-    plus-timesC =
-        solveC six (timesC exprs (plusC exprs (pairE 0 1) (pairE 2 3)) (pairE 4 5))
-        (plusC exprs (timesC exprs (pairE 0 1) (pairE 4 5)) (timesC exprs (pairE 2 3) (pairE 4 5))) refl refl
+    pub plus_times_c : times_c o (plus_c o x y) z ≡ plus_c o (times_c o x z) (times_c o y z)
+    plus_times_c =
+        solve_c six (times_c exprs (plus_c exprs (pair_e 0 1) (pair_e 2 3)) (pair_e 4 5))
+        (plus_c exprs (times_c exprs (pair_e 0 1) (pair_e 4 5)) (times_c exprs (pair_e 2 3) (pair_e 4 5))) refl refl
 
-  pub plus-swapC : (x y z w : Complex A) → plusC o (plusC o x y) (plusC o z w) ≡ plusC o (plusC o x z) (plusC o y w)
-  plus-swapC x y z w = solveC (x.re ∷ x.im ∷ y.re ∷ y.im ∷ z.re ∷ z.im ∷ w.re ∷ w.im ∷ [])
-      (plusC exprs (plusC exprs (pairE 0 1) (pairE 2 3)) (plusC exprs (pairE 4 5) (pairE 6 7)))
-      (plusC exprs (plusC exprs (pairE 0 1) (pairE 4 5)) (plusC exprs (pairE 2 3) (pairE 6 7))) refl refl
+  pub plus_swap_c : (x y z w : Complex A) → plus_c o (plus_c o x y) (plus_c o z w) ≡ plus_c o (plus_c o x z) (plus_c o y w)
+  plus_swap_c x y z w = solve_c (x.re ∷ x.im ∷ y.re ∷ y.im ∷ z.re ∷ z.im ∷ w.re ∷ w.im ∷ [])
+      (plus_c exprs (plus_c exprs (pair_e 0 1) (pair_e 2 3)) (plus_c exprs (pair_e 4 5) (pair_e 6 7)))
+      (plus_c exprs (plus_c exprs (pair_e 0 1) (pair_e 4 5)) (plus_c exprs (pair_e 2 3) (pair_e 6 7))) refl refl
 
-  pub plus-zeroC : (x : Complex A) → plusC o x (zeroC o) ≡ x
-  plus-zeroC x = both (R.plus-nought x.re) (R.plus-nought x.im)
+  pub plus_zero_c : (x : Complex A) → plus_c o x (zero_c o) ≡ x
+  plus_zero_c x = both (R.plus_nought x.re) (R.plus_nought x.im)
 
-  pub times-oneC : (x : Complex A) → timesC o x oneC ≡ x
-  times-oneC x = solveC (x.re ∷ x.im ∷ []) (timesC exprs (pairE 0 1) oneE) (pairE 0 1) refl refl
+  pub times_one_c : (x : Complex A) → times_c o x one_c ≡ x
+  times_one_c x = solve_c (x.re ∷ x.im ∷ []) (times_c exprs (pair_e 0 1) one_e) (pair_e 0 1) refl refl
 
-  pub zero-timesC : (x : Complex A) → timesC o (zeroC o) x ≡ zeroC o
-  zero-timesC x = solveC (x.re ∷ x.im ∷ []) (timesC exprs (zeroC exprs) (pairE 0 1)) (zeroC exprs) refl refl
+  pub zero_times_c : (x : Complex A) → times_c o (zero_c o) x ≡ zero_c o
+  zero_times_c x = solve_c (x.re ∷ x.im ∷ []) (times_c exprs (zero_c exprs) (pair_e 0 1)) (zero_c exprs) refl refl
 
   -- ---- sums
-  unfoldable pub sumC : ℕ → (ℕ → Complex A) → Complex A
-  sumC zero f = zeroC o
-  sumC (suc n) f = plusC o (sumC n f) (f n)
+  unfoldable pub sum_c : ℕ → (ℕ → Complex A) → Complex A
+  sum_c zero f = zero_c o
+  sum_c (suc n) f = plus_c o (sum_c n f) (f n)
 
-  pub sum_same : (n : ℕ) (f g : ℕ → Complex A) → ((i : ℕ) → i < n → f i ≡ g i) → sumC n f ≡ sumC n g
-  unfolding sumC
+  pub sum_same : (n : ℕ) (f g : ℕ → Complex A) → ((i : ℕ) → i < n → f i ≡ g i) → sum_c n f ≡ sum_c n g
+  unfolding sum_c
   sum_same zero f g h = refl
   sum_same (suc n) f g h = rw (sum_same n f g (λ i b. h i (omega arith)), h n (omega arith))
 
-  pub sum-zero : (n : ℕ) → sumC n (λ i. zeroC o) ≡ zeroC o
-  unfolding sumC
-  sum-zero zero = refl
-  sum-zero (suc n) = ap (λ (s : Complex A). plusC o s (zeroC o)) (sum-zero n) ∙ plus-zeroC (zeroC o)
+  pub sum_zero : (n : ℕ) → sum_c n (λ i. zero_c o) ≡ zero_c o
+  unfolding sum_c
+  sum_zero zero = refl
+  sum_zero (suc n) = ap (λ (s : Complex A). plus_c o s (zero_c o)) (sum_zero n) ∙ plus_zero_c (zero_c o)
 
-  pub sum-plus : (n : ℕ) (f g : ℕ → Complex A) → sumC n (λ i. plusC o (f i) (g i)) ≡ plusC o (sumC n f) (sumC n g)
-  unfolding sumC
-  sum-plus zero f g = sym (plus-zeroC (zeroC o))
-  sum-plus (suc n) f g =
-      ap (λ (s : Complex A). plusC o s (plusC o (f n) (g n))) (sum-plus n f g)
-      ∙ plus-swapC (sumC n f) (sumC n g) (f n) (g n)
+  pub sum_plus : (n : ℕ) (f g : ℕ → Complex A) → sum_c n (λ i. plus_c o (f i) (g i)) ≡ plus_c o (sum_c n f) (sum_c n g)
+  unfolding sum_c
+  sum_plus zero f g = sym (plus_zero_c (zero_c o))
+  sum_plus (suc n) f g =
+      ap (λ (s : Complex A). plus_c o s (plus_c o (f n) (g n))) (sum_plus n f g)
+      ∙ plus_swap_c (sum_c n f) (sum_c n g) (f n) (g n)
 
-  pub sum-times : (n : ℕ) (f : ℕ → Complex A) (w : Complex A) → timesC o (sumC n f) w ≡ sumC n (λ i. timesC o (f i) w)
-  unfolding sumC
-  sum-times zero f w = zero-timesC w
-  sum-times (suc n) f w =
-      plus-timesC (sumC n f) (f n) w ∙ ap (λ (s : Complex A). plusC o s (timesC o (f n) w)) (sum-times n f w)
+  pub sum_times : (n : ℕ) (f : ℕ → Complex A) (w : Complex A) → times_c o (sum_c n f) w ≡ sum_c n (λ i. times_c o (f i) w)
+  unfolding sum_c
+  sum_times zero f w = zero_times_c w
+  sum_times (suc n) f w =
+      plus_times_c (sum_c n f) (f n) w ∙ ap (λ (s : Complex A). plus_c o s (times_c o (f n) w)) (sum_times n f w)
 
-  pub sum-on : (m n : ℕ) (f : ℕ → Complex A) → sumC (m + n) f ≡ plusC o (sumC m f) (sumC n (λ i. f (m + i)))
-  unfolding sumC
-  sum-on m zero f = rw (add-zero m) (sym (plus-zeroC (sumC m f)))
-  sum-on m (suc n) f =
-      rw (add-suc m n) (ap (λ (s : Complex A). plusC o s (f (m + n))) (sum-on m n f)
-      ∙ plus-assocC (sumC m f) (sumC n (λ i. f (m + i))) (f (m + n)))
+  pub sum_on : (m n : ℕ) (f : ℕ → Complex A) → sum_c (m + n) f ≡ plus_c o (sum_c m f) (sum_c n (λ i. f (m + i)))
+  unfolding sum_c
+  sum_on m zero f = rw (add-zero m) (sym (plus_zero_c (sum_c m f)))
+  sum_on m (suc n) f =
+      rw (add-suc m n) (ap (λ (s : Complex A). plus_c o s (f (m + n))) (sum_on m n f)
+      ∙ plus_assoc_c (sum_c m f) (sum_c n (λ i. f (m + i))) (f (m + n)))
 
   -- a sum of r * s terms, dealt out to r sums
-  pub sum-dealt : (r s : ℕ) (f : ℕ → Complex A) → sumC (r * s) f ≡ sumC r (λ j. sumC s (λ t. f (r * t + j)))
-  unfolding sumC
-  sum-dealt r zero f = rw (mul-zero r) (sym (sum-zero r))
-  sum-dealt r (suc s) f =
+  pub sum_dealt : (r s : ℕ) (f : ℕ → Complex A) → sum_c (r * s) f ≡ sum_c r (λ j. sum_c s (λ t. f (r * t + j)))
+  unfolding sum_c
+  sum_dealt r zero f = rw (mul-zero r) (sym (sum_zero r))
+  sum_dealt r (suc s) f =
       rw (mul-suc r s)
-      (sum-on (r * s) r f ∙ ap (λ (v : Complex A). plusC o v (sumC r (λ i. f (r * s + i)))) (sum-dealt r s f)
-      ∙ sym (sum-plus r (λ j. sumC s (λ t. f (r * t + j))) (λ i. f (r * s + i))))
+      (sum_on (r * s) r f ∙ ap (λ (v : Complex A). plus_c o v (sum_c r (λ i. f (r * s + i)))) (sum_dealt r s f)
+      ∙ sym (sum_plus r (λ j. sum_c s (λ t. f (r * t + j))) (λ i. f (r * s + i))))
 
   -- ---- the circle
   module _ (c : ℕ → A) (K : Cosines o R.one c) where
     abbrev pub e : ℕ → Complex A
     e m = record { re = c m; im = c (m + 240) }
 
-    pub e-start : e 0 ≡ oneC
-    e-start = both K.start K.quarter
+    pub e_start : e 0 ≡ one_c
+    e_start = both K.start K.quarter
 
-    less-opposite : (x : A) → o.minus o.nought (o.minus o.nought x) ≡ x
-    less-opposite x = solve o R (env (x ∷ [])) (sub nil (sub nil (var 0))) (var 0) refl
+    less_opposite : (x : A) → o.minus o.nought (o.minus o.nought x) ≡ x
+    less_opposite x = solve o R (env (x ∷ [])) (sub nil (sub nil (var 0))) (var 0) refl
 
-    c-turn : (m : ℕ) → c (m + 960) ≡ c m
-    c-turn m =
-        let two-halves : m + 960 ≡ m + 480 + 480 = omega arith in
-        rw two-halves (K.opposite (m + 480) ∙ ap (λ (v : A). o.minus o.nought v) (K.opposite m)
-        ∙ less-opposite (c m))
+    c_turn : (m : ℕ) → c (m + 960) ≡ c m
+    c_turn m =
+        let two_halves : m + 960 ≡ m + 480 + 480 = omega arith in
+        rw two_halves (K.opposite (m + 480) ∙ ap (λ (v : A). o.minus o.nought v) (K.opposite m)
+        ∙ less_opposite (c m))
 
-    pub c-turns : (m t : ℕ) → c (m + 960 * t) ≡ c m
-    c-turns m zero = ap c (add-zero m)
-    c-turns m (suc t) =
+    pub c_turns : (m t : ℕ) → c (m + 960 * t) ≡ c m
+    c_turns m zero = ap c (add-zero m)
+    c_turns m (suc t) =
         let more : m + 960 * suc t ≡ m + 960 * t + 960 = omega arith in
-        rw more (c-turn (m + 960 * t) ∙ c-turns m t)
+        rw more (c_turn (m + 960 * t) ∙ c_turns m t)
 
-    pub e-turns : (m t : ℕ) → e (m + 960 * t) ≡ e m
-    e-turns m t =
+    pub e_turns : (m t : ℕ) → e (m + 960 * t) ≡ e m
+    e_turns m t =
         let on : m + 960 * t + 240 ≡ m + 240 + 960 * t = omega arith in
-        both (c-turns m t) (rw on (c-turns (m + 240) t))
+        both (c_turns m t) (rw on (c_turns (m + 240) t))
 
-    pub c-within : (m : ℕ) → c (m % 960) ≡ c m
-    c-within m = let whole : m % 960 + 960 * (m / 960) ≡ m = omega arith in
-        sym (c-turns (m % 960) (m / 960)) ∙ ap c whole
+    pub c_within : (m : ℕ) → c (m % 960) ≡ c m
+    c_within m = let whole : m % 960 + 960 * (m / 960) ≡ m = omega arith in
+        sym (c_turns (m % 960) (m / 960)) ∙ ap c whole
 
-    sine-sum : (x y z w : A)
+    sine_sum : (x y z w : A)
         → o.minus (o.times x y) (o.times z (o.minus o.nought w)) ≡ o.plus (o.times x y) (o.times z w)
-    sine-sum x y z w =
+    sine_sum x y z w =
         solve o R (env (x ∷ y ∷ z ∷ w ∷ [])) (sub (mul (var 0) (var 1)) (mul (var 2) (sub nil (var 3))))
         (add (mul (var 0) (var 1)) (mul (var 2) (var 3))) refl
 
-    pub e-plus : (m n : ℕ) → e (m + n) ≡ timesC o (e m) (e n)
-    e-plus m n =
+    pub e_plus : (m n : ℕ) → e (m + n) ≡ times_c o (e m) (e n)
+    e_plus m n =
         let on : m + n + 240 ≡ m + (n + 240) = omega arith in
         let half : n + 240 + 240 ≡ n + 480 = omega arith in
         both (K.sum m n)
-        (rw on (K.sum m (n + 240) ∙ rw (half, K.opposite n) (sine-sum (c m) (c (n + 240)) (c (m + 240)) (c n))))
+        (rw on (K.sum m (n + 240) ∙ rw (half, K.opposite n) (sine_sum (c m) (c (n + 240)) (c (m + 240)) (c n))))
 
     -- ---- mirror images
-    pub c-mirror : (m n u : ℕ) → m + n ≡ 960 * u → c m ≡ c n
-    c-mirror m n u h =
+    pub c_mirror : (m n u : ℕ) → m + n ≡ 960 * u → c m ≡ c n
+    c_mirror m n u h =
         ⊎_elim
         (λ z.
         let whole : m % 960 + n % 960 ≡ 960 = omega arith in
-        sym (c-within m) ∙ K.mirror (m % 960) (n % 960) whole ∙ c-within n)
-        (λ z. let same : m % 960 ≡ n % 960 = omega arith in sym (c-within m) ∙ ap c same ∙ c-within n)
+        sym (c_within m) ∙ K.mirror (m % 960) (n % 960) whole ∙ c_within n)
+        (λ z. let same : m % 960 ≡ n % 960 = omega arith in sym (c_within m) ∙ ap c same ∙ c_within n)
         (below_or 0 (m % 960 + n % 960))
 
     abbrev pub conj : Complex A → Complex A
     conj x = record { re = x.re; im = o.minus o.nought x.im }
 
-    pub e-conj : (m n u : ℕ) → m + n ≡ 960 * u → e m ≡ conj (e n)
-    e-conj m n u h =
+    pub e_conj : (m n u : ℕ) → m + n ≡ 960 * u → e m ≡ conj (e n)
+    e_conj m n u h =
         let on : m + 240 + (n + 240 + 480) ≡ 960 * (u + 1) = omega arith in
-        both (c-mirror m n u h) (c-mirror (m + 240) (n + 240 + 480) (u + 1) on ∙ K.opposite (n + 240))
+        both (c_mirror m n u h) (c_mirror (m + 240) (n + 240 + 480) (u + 1) on ∙ K.opposite (n + 240))

@@ -8,109 +8,109 @@ use Rattle.rules.specs.F32.{at, f32, ◌⊕◌}
 use Rattle.rules.specs.Tab.{tab}
 use Rattle.transforms.specs.Cosine.{cosine}
 use Rattle.fft.specs.Ops.{Complex}
-use Rattle.fft.specs.Fast.{complexAt, split, binOut, numberOut, bin_in, merged, mergedOf, sampleOut, asComplex}
-use Rattle.fft.specs.Fast.{transformed, forwardOver, inverseOver}
-use Rattle.fft.specs.Single.{single, of, fastForward, fastInverse}
-use Rattle.fft.specs.Private.{cx, complexOf, putFour, Filled}
+use Rattle.fft.specs.Fast.{complex_at, split, bin_out, number_out, bin_in, merged, merged_of, sample_out, as_complex}
+use Rattle.fft.specs.Fast.{transformed, forward_over, inverse_over}
+use Rattle.fft.specs.Single.{single, of, fast_forward, fast_inverse}
+use Rattle.fft.specs.Private.{cx, complex_of, put_four, Filled}
 use Rattle.fft.specs.declared.complex.Cx.{Cx}
 use Rattle.fft.proofs.Laying.{filled_more}
 
 module _ (t z : List Float) where
   -- ---- forward
-  pub bin-of : (k i j : ℕ) {r a b : Cx} → r ≡ cx (split single (of t) k (complexOf a) (complexOf b))
-      → a ≡ cx (complexAt single z i) → b ≡ cx (complexAt single z j)
-      → i ≡ k % 480 → j ≡ (480 - k) % 480 → r ≡ cx (binOut single (of t) z k)
-  unfolding binOut
-  bin-of k i j h p q e f = rw (← e, ← f) (rw (p, q) at h)
+  pub bin_of_lem : (k i j : ℕ) {r a b : Cx} → r ≡ cx (split single (of t) k (complex_of a) (complex_of b))
+      → a ≡ cx (complex_at single z i) → b ≡ cx (complex_at single z j)
+      → i ≡ k % 480 → j ≡ (480 - k) % 480 → r ≡ cx (bin_out single (of t) z k)
+  unfolding bin_out
+  bin_of_lem k i j h p q e f = rw (← e, ← f) (rw (p, q) at h)
 
-  number-0 : at z 0 ⊕ at z 480 ≡ numberOut single (of t) z 0
-  unfolding numberOut
-  number-0 = refl
+  number_0 : at z 0 ⊕ at z 480 ≡ number_out single (of t) z 0
+  unfolding number_out
+  number_0 = refl
 
-  number-re : (j k : ℕ) → j + 1 ≡ 2 * k → 0 < k → numberOut single (of t) z j ≡ (binOut single (of t) z k).re
-  unfolding numberOut
-  number-re j k e h =
+  number_re : (j k : ℕ) → j + 1 ≡ 2 * k → 0 < k → number_out single (of t) z j ≡ (bin_out single (of t) z k).re
+  unfolding number_out
+  number_re j k e h =
       let half : (j + 1) / 2 ≡ k = omega arith in
       simp (ne_eqb j 0 (omega arith), eq-eqb (j % 2) 1 (omega arith), half)
 
-  number-im : (j k : ℕ) → j ≡ 2 * k → 0 < k → numberOut single (of t) z j ≡ (binOut single (of t) z k).im
-  unfolding numberOut
-  number-im j k e h =
+  number_im : (j k : ℕ) → j ≡ 2 * k → 0 < k → number_out single (of t) z j ≡ (bin_out single (of t) z k).im
+  unfolding number_out
+  number_im j k e h =
       let half : j / 2 ≡ k = omega arith in
       simp (ne_eqb j 0 (omega arith), ne_eqb (j % 2) 1 (omega arith), half)
 
-  pub bins-filled : (k : ℕ) {held mid now : List Float} {w x y v : Cx} → 0 < k → k + 4 ≤ 481
-      → Filled 961 (numberOut single (of t) z) (2 * k - 1) held
-      → w ≡ cx (binOut single (of t) z k) → x ≡ cx (binOut single (of t) z (k + 1))
-      → y ≡ cx (binOut single (of t) z (k + 2)) → v ≡ cx (binOut single (of t) z (k + 3))
-      → mid ≡ putFour held (2 * k - 1) w.re w.im x.re x.im
-      → now ≡ putFour mid (2 * k + 3) y.re y.im v.re v.im
-      → Filled 961 (numberOut single (of t) z) (2 * k + 7) now
-  bins-filled k pos room h p q u s d e =
+  pub bins_filled : (k : ℕ) {held mid now : List Float} {w x y v : Cx} → 0 < k → k + 4 ≤ 481
+      → Filled 961 (number_out single (of t) z) (2 * k - 1) held
+      → w ≡ cx (bin_out single (of t) z k) → x ≡ cx (bin_out single (of t) z (k + 1))
+      → y ≡ cx (bin_out single (of t) z (k + 2)) → v ≡ cx (bin_out single (of t) z (k + 3))
+      → mid ≡ put_four held (2 * k - 1) w.re w.im x.re x.im
+      → now ≡ put_four mid (2 * k + 3) y.re y.im v.re v.im
+      → Filled 961 (number_out single (of t) z) (2 * k + 7) now
+  bins_filled k pos room h p q u s d e =
       let re : Cx → Float = λ c. c.re in
       let im : Cx → Float = λ c. c.im in
       let on : 2 * k - 1 + 4 ≡ 2 * k + 3 = omega arith in
       let end : 2 * k + 3 + 4 ≡ 2 * k + 7 = omega arith in
-      let first = filled_more 961 (numberOut single (of t) z) (2 * k - 1) (omega arith) h
-      (ap re p ∙ sym (number-re (2 * k - 1) k (omega arith) pos))
-      (ap im p ∙ sym (number-im (2 * k - 1 + 1) k (omega arith) pos))
-      (ap re q ∙ sym (number-re (2 * k - 1 + 2) (k + 1) (omega arith) (omega arith)))
-      (ap im q ∙ sym (number-im (2 * k - 1 + 3) (k + 1) (omega arith) (omega arith))) d in
-      rw end at (filled_more 961 (numberOut single (of t) z) (2 * k + 3) (omega arith) (rw on at first)
-      (ap re u ∙ sym (number-re (2 * k + 3) (k + 2) (omega arith) (omega arith)))
-      (ap im u ∙ sym (number-im (2 * k + 3 + 1) (k + 2) (omega arith) (omega arith)))
-      (ap re s ∙ sym (number-re (2 * k + 3 + 2) (k + 3) (omega arith) (omega arith)))
-      (ap im s ∙ sym (number-im (2 * k + 3 + 3) (k + 3) (omega arith) (omega arith))) e)
+      let first = filled_more 961 (number_out single (of t) z) (2 * k - 1) (omega arith) h
+      (ap re p ∙ sym (number_re (2 * k - 1) k (omega arith) pos))
+      (ap im p ∙ sym (number_im (2 * k - 1 + 1) k (omega arith) pos))
+      (ap re q ∙ sym (number_re (2 * k - 1 + 2) (k + 1) (omega arith) (omega arith)))
+      (ap im q ∙ sym (number_im (2 * k - 1 + 3) (k + 1) (omega arith) (omega arith))) d in
+      rw end at (filled_more 961 (number_out single (of t) z) (2 * k + 3) (omega arith) (rw on at first)
+      (ap re u ∙ sym (number_re (2 * k + 3) (k + 2) (omega arith) (omega arith)))
+      (ap im u ∙ sym (number_im (2 * k + 3 + 1) (k + 2) (omega arith) (omega arith)))
+      (ap re s ∙ sym (number_re (2 * k + 3 + 2) (k + 3) (omega arith) (omega arith)))
+      (ap im s ∙ sym (number_im (2 * k + 3 + 3) (k + 3) (omega arith) (omega arith))) e)
 
-  pub bin-0-filled : (held : List Float) → length held ≡ 961
-      → Filled 961 (numberOut single (of t) z) 1 (set held 0 (at z 0 ⊕ at z 480))
-  bin-0-filled held long = record {
+  pub bin_0_filled : (held : List Float) → length held ≡ 961
+      → Filled 961 (number_out single (of t) z) 1 (set held 0 (at z 0 ⊕ at z 480))
+  bin_0_filled held long = record {
     long = simp length-set long;
-    behind = λ j h. let e : j ≡ 0 = omega arith in rw e (get_or-set_same held 0 _ _ (omega arith) ∙ number-0);
+    behind = λ j h. let e : j ≡ 0 = omega arith in rw e (get_or-set_same held 0 _ _ (omega arith) ∙ number_0);
   }
 
   -- ---- inverse
-  pub merged-of : (k : ℕ) {r a b : Cx} {e f : Complex Float}
-      → r ≡ cx (merged single (of t) k (complexOf a) (complexOf b)) → a ≡ cx e → b ≡ cx f
+  pub merged_of_lem : (k : ℕ) {r a b : Cx} {e f : Complex Float}
+      → r ≡ cx (merged single (of t) k (complex_of a) (complex_of b)) → a ≡ cx e → b ≡ cx f
       → r ≡ cx (merged single (of t) k e f)
-  merged-of k h p q = rw (p, q) at h
+  merged_of_lem k h p q = rw (p, q) at h
 
 module _ (z : List Float) where
-  pub bin-in-0 : (k : ℕ) → k ≡ 0 → bin_in single z k ≡ record { re = at z 0; im = f32 0 }
+  pub bin_in_0 : (k : ℕ) → k ≡ 0 → bin_in single z k ≡ record { re = at z 0; im = f32 0 }
   unfolding bin_in
-  bin-in-0 k e = simp (eq-eqb k 0 e)
+  bin_in_0 k e = simp (eq-eqb k 0 e)
 
-  pub bin-in-480 : (k : ℕ) → k ≡ 480 → bin_in single z k ≡ record { re = at z 959; im = f32 0 }
+  pub bin_in_480 : (k : ℕ) → k ≡ 480 → bin_in single z k ≡ record { re = at z 959; im = f32 0 }
   unfolding bin_in
-  bin-in-480 k e = simp (ne_eqb k 0 (omega arith), eq-eqb k 480 e)
+  bin_in_480 k e = simp (ne_eqb k 0 (omega arith), eq-eqb k 480 e)
 
-  pub bin-in-mid : (k : ℕ) → 0 < k → k < 480 → bin_in single z k ≡ record { re = at z (2 * k - 1); im = at z (2 * k) }
+  pub bin_in_mid : (k : ℕ) → 0 < k → k < 480 → bin_in single z k ≡ record { re = at z (2 * k - 1); im = at z (2 * k) }
   unfolding bin_in
-  bin-in-mid k h g = simp (ne_eqb k 0 (omega arith), ne_eqb k 480 (omega arith))
+  bin_in_mid k h g = simp (ne_eqb k 0 (omega arith), ne_eqb k 480 (omega arith))
 
-  pub sample-even : (n i : ℕ) → n ≡ 2 * i → at z (480 + i) ≡ sampleOut single z n
-  unfolding sampleOut
-  sample-even n i e =
+  pub sample_even : (n i : ℕ) → n ≡ 2 * i → at z (480 + i) ≡ sample_out single z n
+  unfolding sample_out
+  sample_even n i e =
       let half : n / 2 ≡ i = omega arith in
       simp (eq-eqb (n % 2) 0 (omega arith), half)
 
-  pub sample-odd : (n i : ℕ) → n ≡ 2 * i + 1 → at z i ≡ sampleOut single z n
-  unfolding sampleOut
-  sample-odd n i e =
+  pub sample_odd : (n i : ℕ) → n ≡ 2 * i + 1 → at z i ≡ sample_out single z n
+  unfolding sample_out
+  sample_odd n i e =
       let half : n / 2 ≡ i = omega arith in
       simp (ne_eqb (n % 2) 0 (omega arith), half)
 
 -- ---- the whole
-pub forward-right : (x : List Float) {t out y z : List Float} → out ≡ tab 961 (numberOut single (of t) y)
-    → y ≡ transformed single (of t) z → z ≡ asComplex single x → t ≡ cosine
-    → out ≡ fastForward x
-unfolding fastForward forwardOver
-forward-right x {t} p q r e =
-    rw (← e) (p ∙ ap (λ (l : List Float). tab 961 (numberOut single (of t) l)) (q ∙ ap (transformed single (of t)) r))
+pub forward_right : (x : List Float) {t out y z : List Float} → out ≡ tab 961 (number_out single (of t) y)
+    → y ≡ transformed single (of t) z → z ≡ as_complex single x → t ≡ cosine
+    → out ≡ fast_forward x
+unfolding fast_forward forward_over
+forward_right x {t} p q r e =
+    rw (← e) (p ∙ ap (λ (l : List Float). tab 961 (number_out single (of t) l)) (q ∙ ap (transformed single (of t)) r))
 
-pub inverse-right : (x : List Float) {t out y z : List Float} → out ≡ tab 960 (sampleOut single y)
-    → y ≡ transformed single (of t) z → z ≡ mergedOf single (of t) x → t ≡ cosine
-    → out ≡ fastInverse x
-unfolding fastInverse inverseOver
-inverse-right x {t} p q r e =
-    rw (← e) (p ∙ ap (λ (l : List Float). tab 960 (sampleOut single l)) (q ∙ ap (transformed single (of t)) r))
+pub inverse_right : (x : List Float) {t out y z : List Float} → out ≡ tab 960 (sample_out single y)
+    → y ≡ transformed single (of t) z → z ≡ merged_of single (of t) x → t ≡ cosine
+    → out ≡ fast_inverse x
+unfolding fast_inverse inverse_over
+inverse_right x {t} p q r e =
+    rw (← e) (p ∙ ap (λ (l : List Float). tab 960 (sample_out single l)) (q ∙ ap (transformed single (of t)) r))

@@ -1,10 +1,10 @@
 -- The transforms of two to five numbers, of what was read. Assumes nothing.
 use Rattle.rules.proofs.Common.{ℕ, ◌+◌, ◌*◌, List, ◌≡◌, ap, ◌∙◌, Float}
 use Rattle.fft.specs.Ops.{Complex}
-use Rattle.fft.specs.Fast.{complexAt, turnedBack, ofTwo, ofThree, of_four, ofFive, first, angle, row2, row3, row4}
+use Rattle.fft.specs.Fast.{complex_at, turned_back, of_two, of_three, of_four, of_five, first, angle, row2, row3, row4}
 use Rattle.fft.specs.Fast.{row5, stage, transformed}
 use Rattle.fft.specs.Single.{single, of}
-use Rattle.fft.specs.Private.{cx, complexOf, twos, threes, fours, fives}
+use Rattle.fft.specs.Private.{cx, complex_of, twos, threes, fours, fives}
 use Rattle.fft.specs.declared.complex.Cx.{Cx}
 use Rattle.fft.specs.declared.bins.Twos.{Twos}
 use Rattle.fft.specs.declared.bins.Threes.{Threes}
@@ -12,52 +12,52 @@ use Rattle.fft.specs.declared.bins.Fours.{Fours}
 use Rattle.fft.specs.declared.bins.Fives.{Fives}
 
 module _ (t : List Float) where
-  pub two-of : {r : Twos} {a b : Cx} {ea eb : Complex Float} → r ≡ twos (ofTwo single (complexOf a) (complexOf b))
+  pub two_of : {r : Twos} {a b : Cx} {ea eb : Complex Float} → r ≡ twos (of_two single (complex_of a) (complex_of b))
       → a ≡ cx ea → b ≡ cx eb
-      → r ≡ twos (ofTwo single ea eb)
-  two-of h pa pb = rw (pa, pb) at h
+      → r ≡ twos (of_two single ea eb)
+  two_of h pa pb = rw (pa, pb) at h
 
-  pub three-of : {r : Threes} {a b d : Cx} {ea eb ed : Complex Float}
-      → r ≡ threes (ofThree single (of t) (complexOf a) (complexOf b) (complexOf d)) → a ≡ cx ea → b ≡ cx eb → d ≡ cx ed
-      → r ≡ threes (ofThree single (of t) ea eb ed)
-  three-of h pa pb pd = rw (pa, pb, pd) at h
+  pub three_of : {r : Threes} {a b d : Cx} {ea eb ed : Complex Float}
+      → r ≡ threes (of_three single (of t) (complex_of a) (complex_of b) (complex_of d)) → a ≡ cx ea → b ≡ cx eb → d ≡ cx ed
+      → r ≡ threes (of_three single (of t) ea eb ed)
+  three_of h pa pb pd = rw (pa, pb, pd) at h
 
-  pub four-of : {r : Fours} {a b d e : Cx} {ea eb ed ee : Complex Float}
-      → r ≡ fours (of_four single (complexOf a) (complexOf b) (complexOf d) (complexOf e)) → a ≡ cx ea → b ≡ cx eb
+  pub four_of_lem : {r : Fours} {a b d e : Cx} {ea eb ed ee : Complex Float}
+      → r ≡ fours (of_four single (complex_of a) (complex_of b) (complex_of d) (complex_of e)) → a ≡ cx ea → b ≡ cx eb
       → d ≡ cx ed → e ≡ cx ee
       → r ≡ fours (of_four single ea eb ed ee)
-  four-of h pa pb pd pe = rw (pa, pb, pd, pe) at h
+  four_of_lem h pa pb pd pe = rw (pa, pb, pd, pe) at h
 
-  pub five-of : {r : Fives} {a b d e f : Cx} {ea eb ed ee ef : Complex Float}
-      → r ≡ fives (ofFive single (of t) (complexOf a) (complexOf b) (complexOf d) (complexOf e) (complexOf f))
+  pub five_of : {r : Fives} {a b d e f : Cx} {ea eb ed ee ef : Complex Float}
+      → r ≡ fives (of_five single (of t) (complex_of a) (complex_of b) (complex_of d) (complex_of e) (complex_of f))
       → a ≡ cx ea → b ≡ cx eb → d ≡ cx ed → e ≡ cx ee → f ≡ cx ef
-      → r ≡ fives (ofFive single (of t) ea eb ed ee ef)
-  five-of h pa pb pd pe pf = rw (pa, pb, pd, pe, pf) at h
+      → r ≡ fives (of_five single (of t) ea eb ed ee ef)
+  five_of h pa pb pd pe pf = rw (pa, pb, pd, pe, pf) at h
 
   -- lane i, by the place p of its first number and the angle a of its second
-  pub row2-of : (z : List Float) (m i : ℕ) {p a : ℕ} {r : Twos} → p ≡ first 2 m i → a ≡ angle m i
-      → r ≡ twos (ofTwo single (complexAt single z p) (turnedBack single (of t) a (complexAt single z (p + m))))
+  pub row2_of : (z : List Float) (m i : ℕ) {p a : ℕ} {r : Twos} → p ≡ first 2 m i → a ≡ angle m i
+      → r ≡ twos (of_two single (complex_at single z p) (turned_back single (of t) a (complex_at single z (p + m))))
       → r ≡ twos (row2 single (of t) m z i)
   unfolding row2
-  row2-of z m i hp ha h = rw (hp, ha) at h
+  row2_of z m i hp ha h = rw (hp, ha) at h
 
   -- lane i, by the place p of its first number and the angle a of its second
-  pub row3-of : (z : List Float) (m i : ℕ) {p a : ℕ} {r : Threes} → p ≡ first 3 m i → a ≡ angle m i
-      → r ≡ threes (ofThree single (of t) (complexAt single z p)
-      (turnedBack single (of t) a (complexAt single z (p + m)))
-      (turnedBack single (of t) (2 * a) (complexAt single z (p + 2 * m))))
+  pub row3_of : (z : List Float) (m i : ℕ) {p a : ℕ} {r : Threes} → p ≡ first 3 m i → a ≡ angle m i
+      → r ≡ threes (of_three single (of t) (complex_at single z p)
+      (turned_back single (of t) a (complex_at single z (p + m)))
+      (turned_back single (of t) (2 * a) (complex_at single z (p + 2 * m))))
       → r ≡ threes (row3 single (of t) m z i)
   unfolding row3
-  row3-of z m i hp ha h = rw (hp, ha) at h
+  row3_of z m i hp ha h = rw (hp, ha) at h
 
   -- lane i, by the place p of its first number and the angle a of its second
-  pub row4-of : (z : List Float) (m i : ℕ) {p a : ℕ} {r : Fours} → p ≡ first 4 m i → a ≡ angle m i
-      → r ≡ fours (of_four single (complexAt single z p) (turnedBack single (of t) a (complexAt single z (p + m)))
-      (turnedBack single (of t) (2 * a) (complexAt single z (p + 2 * m)))
-      (turnedBack single (of t) (3 * a) (complexAt single z (p + 3 * m))))
+  pub row4_of : (z : List Float) (m i : ℕ) {p a : ℕ} {r : Fours} → p ≡ first 4 m i → a ≡ angle m i
+      → r ≡ fours (of_four single (complex_at single z p) (turned_back single (of t) a (complex_at single z (p + m)))
+      (turned_back single (of t) (2 * a) (complex_at single z (p + 2 * m)))
+      (turned_back single (of t) (3 * a) (complex_at single z (p + 3 * m))))
       → r ≡ fours (row4 single (of t) m z i)
   unfolding row4
-  row4-of z m i hp ha h = rw (hp, ha) at h
+  row4_of z m i hp ha h = rw (hp, ha) at h
 
   -- the five stages, one after the other
   pub staged : (z : List Float) {y₁ z₁ y₂ z₂ y₃ : List Float} → y₁ ≡ stage 96 (row5 single (of t) z)

@@ -1,5 +1,5 @@
 -- A list of complex numbers that is filled four lanes at a time: `begun` shows `Laid` where a stage begins, `lay` adds
--- the bins of four lanes, row by row, and `laid-all` reads it after the last. Assumes nothing.
+-- the bins of four lanes, row by row, and `laid_all` reads it after the last. Assumes nothing.
 use Rattle.rules.proofs.Common.{ℕ, zero, suc, ◌+◌, ◌-◌, ◌*◌, ◌/◌, ◌%◌, ◌≤◌, ◌<◌, cond, List, ◌≡◌, refl, sym, ap, ◌∙◌}
 use Rattle.rules.proofs.Common.{ltb, length, set, length-set}
 use Rattle.rules.proofs.Common.{Float, nan}
@@ -11,11 +11,11 @@ use borrow.Author.Tests.{lt-ltb, le-ltb}
 use lib.Seq.{get_or-set_same, get_or-set_other, ext_get_or}
 use Rattle.rules.specs.F32.{at}
 use Rattle.rules.specs.Tab.{tab}
-use Rattle.rules.proofs.Lists.{length-tab, getD-tab, tab-same}
+use Rattle.rules.proofs.Lists.{length_tab, get_d_tab, tab_same}
 use Rattle.fft.specs.Ops.{Complex}
-use Rattle.fft.specs.Fast.{complexAt, complexes, stage}
+use Rattle.fft.specs.Fast.{complex_at, complexes, stage}
 use Rattle.fft.specs.Single.{single}
-use Rattle.fft.specs.Private.{putFour, putComplex, putTwos, putThrees, putFours, putFives, complexOf, twos}
+use Rattle.fft.specs.Private.{put_four, put_complex, put_twos, put_threes, put_fours, put_fives, complex_of, twos}
 use Rattle.fft.specs.Private.{threes, fours, fives, cx, Laid, Filled}
 use Rattle.fft.specs.declared.complex.Cx.{Cx}
 use Rattle.fft.specs.declared.bins.Twos.{Twos}
@@ -29,7 +29,7 @@ below_or zero (suc b) = inl (omega arith)
 below_or (suc a) (suc b) = ⊎_elim (λ p. inl (omega arith)) (λ q. inr (omega arith)) (below_or a b)
 
 abbrev E : List Float → ℕ → Complex Float
-E xs i = complexAt single xs i
+E xs i = complex_at single xs i
 
 both : {a b c d : Float} → a ≡ b → c ≡ d
     → ◌≡◌ {A = Complex Float} (record { re = a; im = c }) (record { re = b; im = d })
@@ -37,99 +37,99 @@ both p q = cc
 
 -- ---- four numbers
 module _ (xs : List Float) (p : ℕ) (a b c d : Float) where
-  four-length : length (putFour xs p a b c d) ≡ length xs
-  unfolding putFour
-  four-length = simp length-set
+  four_length : length (put_four xs p a b c d) ≡ length xs
+  unfolding put_four
+  four_length = simp length-set
 
-  four-other : (j : ℕ) → (j ≡ p → ⊥) → (j ≡ p + 1 → ⊥) → (j ≡ p + 2 → ⊥) → (j ≡ p + 3 → ⊥)
-      → at (putFour xs p a b c d) j ≡ at xs j
-  unfolding putFour
-  four-other j h₀ h₁ h₂ h₃ =
+  four_other : (j : ℕ) → (j ≡ p → ⊥) → (j ≡ p + 1 → ⊥) → (j ≡ p + 2 → ⊥) → (j ≡ p + 3 → ⊥)
+      → at (put_four xs p a b c d) j ≡ at xs j
+  unfolding put_four
+  four_other j h₀ h₁ h₂ h₃ =
       get_or-set_other (set (set (set xs p a) (p + 1) b) (p + 2) c) (p + 3) j d nan h₃
       ∙ get_or-set_other (set (set xs p a) (p + 1) b) (p + 2) j c nan h₂
       ∙ get_or-set_other (set xs p a) (p + 1) j b nan h₁ ∙ get_or-set_other xs p j a nan h₀
 
-  four_below : (j : ℕ) → j < p → at (putFour xs p a b c d) j ≡ at xs j
-  four_below j h = four-other j (λ e. omega arith) (λ e. omega arith) (λ e. omega arith) (λ e. omega arith)
+  four_below : (j : ℕ) → j < p → at (put_four xs p a b c d) j ≡ at xs j
+  four_below j h = four_other j (λ e. omega arith) (λ e. omega arith) (λ e. omega arith) (λ e. omega arith)
 
-  four-above : (j : ℕ) → p + 4 ≤ j → at (putFour xs p a b c d) j ≡ at xs j
-  four-above j h = four-other j (λ e. omega arith) (λ e. omega arith) (λ e. omega arith) (λ e. omega arith)
+  four_above : (j : ℕ) → p + 4 ≤ j → at (put_four xs p a b c d) j ≡ at xs j
+  four_above j h = four_other j (λ e. omega arith) (λ e. omega arith) (λ e. omega arith) (λ e. omega arith)
 
   module _ (room : p + 4 ≤ length xs) where
-    four-0 : at (putFour xs p a b c d) p ≡ a
-    unfolding putFour
-    four-0 =
+    four_0 : at (put_four xs p a b c d) p ≡ a
+    unfolding put_four
+    four_0 =
         get_or-set_other (set (set (set xs p a) (p + 1) b) (p + 2) c) (p + 3) p d nan (λ e. omega arith)
         ∙ get_or-set_other (set (set xs p a) (p + 1) b) (p + 2) p c nan (λ e. omega arith)
         ∙ get_or-set_other (set xs p a) (p + 1) p b nan (λ e. omega arith) ∙ get_or-set_same xs p a nan (omega arith)
 
-    four-1 : at (putFour xs p a b c d) (p + 1) ≡ b
-    unfolding putFour
-    four-1 =
+    four_1 : at (put_four xs p a b c d) (p + 1) ≡ b
+    unfolding put_four
+    four_1 =
         get_or-set_other (set (set (set xs p a) (p + 1) b) (p + 2) c) (p + 3) (p + 1) d nan (λ e. omega arith)
         ∙ get_or-set_other (set (set xs p a) (p + 1) b) (p + 2) (p + 1) c nan (λ e. omega arith)
         ∙ get_or-set_same (set xs p a) (p + 1) b nan (simp length-set (omega arith))
 
-    four-2 : at (putFour xs p a b c d) (p + 2) ≡ c
-    unfolding putFour
-    four-2 =
+    four_2 : at (put_four xs p a b c d) (p + 2) ≡ c
+    unfolding put_four
+    four_2 =
         get_or-set_other (set (set (set xs p a) (p + 1) b) (p + 2) c) (p + 3) (p + 2) d nan (λ e. omega arith)
         ∙ get_or-set_same (set (set xs p a) (p + 1) b) (p + 2) c nan (simp length-set (omega arith))
 
-    four-3 : at (putFour xs p a b c d) (p + 3) ≡ d
-    unfolding putFour
-    four-3 = get_or-set_same (set (set (set xs p a) (p + 1) b) (p + 2) c) (p + 3) d nan (simp length-set (omega arith))
+    four_3 : at (put_four xs p a b c d) (p + 3) ≡ d
+    unfolding put_four
+    four_3 = get_or-set_same (set (set (set xs p a) (p + 1) b) (p + 2) c) (p + 3) d nan (simp length-set (omega arith))
 
 -- ---- four complex numbers
 module _ (xs : List Float) (p : ℕ) (w x y v : Cx) (long : length xs ≡ 960) (room : p + 4 ≤ 480) where
   abbrev half : List Float
-  half = putFour xs p w.re x.re y.re v.re
+  half = put_four xs p w.re x.re y.re v.re
 
-  half-long : length half ≡ 960
-  half-long = four-length xs p w.re x.re y.re v.re ∙ long
+  half_long : length half ≡ 960
+  half_long = four_length xs p w.re x.re y.re v.re ∙ long
 
-  put-long : length (putComplex xs p w x y v) ≡ 960
-  unfolding putComplex
-  put-long = four-length half (480 + p) w.im x.im y.im v.im ∙ half-long
+  put_long : length (put_complex xs p w x y v) ≡ 960
+  unfolding put_complex
+  put_long = four_length half (480 + p) w.im x.im y.im v.im ∙ half_long
 
-  put-below : (j : ℕ) → j < p → E (putComplex xs p w x y v) j ≡ E xs j
-  unfolding putComplex
-  put-below j h = both
+  put_below : (j : ℕ) → j < p → E (put_complex xs p w x y v) j ≡ E xs j
+  unfolding put_complex
+  put_below j h = both
       (four_below half (480 + p) _ _ _ _ j (omega arith) ∙ four_below xs p _ _ _ _ j h)
-      (four_below half (480 + p) _ _ _ _ (480 + j) (omega arith) ∙ four-above xs p _ _ _ _ (480 + j) (omega arith))
+      (four_below half (480 + p) _ _ _ _ (480 + j) (omega arith) ∙ four_above xs p _ _ _ _ (480 + j) (omega arith))
 
-  put-above : (j : ℕ) → p + 4 ≤ j → j < 480 → E (putComplex xs p w x y v) j ≡ E xs j
-  unfolding putComplex
-  put-above j h k = both
-      (four_below half (480 + p) _ _ _ _ j (omega arith) ∙ four-above xs p _ _ _ _ j h)
-      (four-above half (480 + p) _ _ _ _ (480 + j) (omega arith) ∙ four-above xs p _ _ _ _ (480 + j) (omega arith))
+  put_above : (j : ℕ) → p + 4 ≤ j → j < 480 → E (put_complex xs p w x y v) j ≡ E xs j
+  unfolding put_complex
+  put_above j h k = both
+      (four_below half (480 + p) _ _ _ _ j (omega arith) ∙ four_above xs p _ _ _ _ j h)
+      (four_above half (480 + p) _ _ _ _ (480 + j) (omega arith) ∙ four_above xs p _ _ _ _ (480 + j) (omega arith))
 
   fits : p + 4 ≤ length xs
   fits = omega (arith, long)
 
-  fits-too : 480 + p + 4 ≤ length half
-  fits-too = omega (arith, half-long)
+  fits_too : 480 + p + 4 ≤ length half
+  fits_too = omega (arith, half_long)
 
-  put-0 : E (putComplex xs p w x y v) p ≡ complexOf w
-  unfolding putComplex
-  put-0 =
-      both (four_below half (480 + p) _ _ _ _ p (omega arith) ∙ four-0 xs p _ _ _ _ fits)
-      (four-0 half (480 + p) _ _ _ _ fits-too)
+  put_0 : E (put_complex xs p w x y v) p ≡ complex_of w
+  unfolding put_complex
+  put_0 =
+      both (four_below half (480 + p) _ _ _ _ p (omega arith) ∙ four_0 xs p _ _ _ _ fits)
+      (four_0 half (480 + p) _ _ _ _ fits_too)
 
-  put_1 : E (putComplex xs p w x y v) (p + 1) ≡ complexOf x
-  unfolding putComplex
-  put_1 = both (four_below half (480 + p) _ _ _ _ (p + 1) (omega arith) ∙ four-1 xs p _ _ _ _ fits)
-      (let e : 480 + (p + 1) ≡ 480 + p + 1 = omega arith in rw e (four-1 half (480 + p) _ _ _ _ fits-too))
+  put_1 : E (put_complex xs p w x y v) (p + 1) ≡ complex_of x
+  unfolding put_complex
+  put_1 = both (four_below half (480 + p) _ _ _ _ (p + 1) (omega arith) ∙ four_1 xs p _ _ _ _ fits)
+      (let e : 480 + (p + 1) ≡ 480 + p + 1 = omega arith in rw e (four_1 half (480 + p) _ _ _ _ fits_too))
 
-  put_2 : E (putComplex xs p w x y v) (p + 2) ≡ complexOf y
-  unfolding putComplex
-  put_2 = both (four_below half (480 + p) _ _ _ _ (p + 2) (omega arith) ∙ four-2 xs p _ _ _ _ fits)
-      (let e : 480 + (p + 2) ≡ 480 + p + 2 = omega arith in rw e (four-2 half (480 + p) _ _ _ _ fits-too))
+  put_2 : E (put_complex xs p w x y v) (p + 2) ≡ complex_of y
+  unfolding put_complex
+  put_2 = both (four_below half (480 + p) _ _ _ _ (p + 2) (omega arith) ∙ four_2 xs p _ _ _ _ fits)
+      (let e : 480 + (p + 2) ≡ 480 + p + 2 = omega arith in rw e (four_2 half (480 + p) _ _ _ _ fits_too))
 
-  put_3 : E (putComplex xs p w x y v) (p + 3) ≡ complexOf v
-  unfolding putComplex
-  put_3 = both (four_below half (480 + p) _ _ _ _ (p + 3) (omega arith) ∙ four-3 xs p _ _ _ _ fits)
-      (let e : 480 + (p + 3) ≡ 480 + p + 3 = omega arith in rw e (four-3 half (480 + p) _ _ _ _ fits-too))
+  put_3 : E (put_complex xs p w x y v) (p + 3) ≡ complex_of v
+  unfolding put_complex
+  put_3 = both (four_below half (480 + p) _ _ _ _ (p + 3) (omega arith) ∙ four_3 xs p _ _ _ _ fits)
+      (let e : 480 + (p + 3) ≡ 480 + p + 3 = omega arith in rw e (four_3 half (480 + p) _ _ _ _ fits_too))
 
 -- ---- rows: of four more lanes, the first k bins are in their places
 pub record Laying (r n : ℕ) (g : ℕ → ℕ → Complex Float) (i k : ℕ) (held : List Float) : Type 0 where
@@ -142,18 +142,18 @@ module _ (r n : ℕ) (g : ℕ → ℕ → Complex Float) (whole : n * r ≡ 480)
   begun held l = record { long = l; behind = λ a b h k. absurd (omega arith) }
 
   module _ (i : ℕ) where
-    pub lay-begin : {held : List Float} → Laid r n g i held → Laying r n g i 0 held
-    lay-begin h = record { long = h.long; behind = h.behind; here = λ a b h k. absurd (omega arith) }
+    pub lay_begin : {held : List Float} → Laid r n g i held → Laying r n g i 0 held
+    lay_begin h = record { long = h.long; behind = h.behind; here = λ a b h k. absurd (omega arith) }
 
-    lay-more : (k : ℕ) {held : List Float} {w x y v : Cx} → Laying r n g i k held → k < r → i + 4 ≤ n
-        → complexOf w ≡ g i k → complexOf x ≡ g (i + 1) k → complexOf y ≡ g (i + 2) k → complexOf v ≡ g (i + 3) k
-        → Laying r n g i (k + 1) (putComplex held (n * k + i) w x y v)
-    lay-more k {held} {w} {x} {y} {v} h inside room e₀ e₁ e₂ e₃ =
+    lay_more : (k : ℕ) {held : List Float} {w x y v : Cx} → Laying r n g i k held → k < r → i + 4 ≤ n
+        → complex_of w ≡ g i k → complex_of x ≡ g (i + 1) k → complex_of y ≡ g (i + 2) k → complex_of v ≡ g (i + 3) k
+        → Laying r n g i (k + 1) (put_complex held (n * k + i) w x y v)
+    lay_more k {held} {w} {x} {y} {v} h inside room e₀ e₁ e₂ e₃ =
         let top : n * (k + 1) ≤ n * r = mul-le-mul_left n (omega arith) in
-        let one_more : n * (k + 1) ≡ n * k + n = times_more n k in
+        let one_more_lem : n * (k + 1) ≡ n * k + n = times_more n k in
         let fit : n * k + i + 4 ≤ 480 = omega arith in
         record {
-          long = put-long held (n * k + i) w x y v h.long fit;
+          long = put_long held (n * k + i) w x y v h.long fit;
           behind = λ a b p q. ⊎_elim (λ z. before a b p q z fit) (λ z. after a b p q z fit) (below_or k a);
           here = λ a b p q. ⊎_elim (λ z. passed a b z q fit) (λ z. now a b (omega arith) q fit) (below_or a k);
         }
@@ -162,31 +162,31 @@ module _ (r n : ℕ) (g : ℕ → ℕ → Complex Float) (whole : n * r ≡ 480)
         times_more m j = rw (add-one j) (mul-suc m j)
 
         before : (a b : ℕ) → a < r → b < i → k < a → n * k + i + 4 ≤ 480
-            → E (putComplex held (n * k + i) w x y v) (n * a + b) ≡ g b a
+            → E (put_complex held (n * k + i) w x y v) (n * a + b) ≡ g b a
         before a b p q z fit =
             let low : n * (k + 1) ≤ n * a = mul-le-mul_left n (omega arith) in
             let high : n * (a + 1) ≤ n * r = mul-le-mul_left n (omega arith) in
-            let one_more : n * (k + 1) ≡ n * k + n = times_more n k in
-            let two-more : n * (a + 1) ≡ n * a + n = times_more n a in
-            put-above held (n * k + i) w x y v h.long fit (n * a + b) (omega arith) (omega arith) ∙ h.behind a b p q
+            let one_more_lem : n * (k + 1) ≡ n * k + n = times_more n k in
+            let two_more : n * (a + 1) ≡ n * a + n = times_more n a in
+            put_above held (n * k + i) w x y v h.long fit (n * a + b) (omega arith) (omega arith) ∙ h.behind a b p q
 
         after : (a b : ℕ) → a < r → b < i → a ≤ k → n * k + i + 4 ≤ 480
-            → E (putComplex held (n * k + i) w x y v) (n * a + b) ≡ g b a
+            → E (put_complex held (n * k + i) w x y v) (n * a + b) ≡ g b a
         after a b p q z fit =
             let low : n * a ≤ n * k = mul-le-mul_left n (omega arith) in
-            put-below held (n * k + i) w x y v h.long fit (n * a + b) (omega arith) ∙ h.behind a b p q
+            put_below held (n * k + i) w x y v h.long fit (n * a + b) (omega arith) ∙ h.behind a b p q
 
         passed : (a b : ℕ) → a < k → b < 4 → n * k + i + 4 ≤ 480
-            → E (putComplex held (n * k + i) w x y v) (n * a + (i + b)) ≡ g (i + b) a
+            → E (put_complex held (n * k + i) w x y v) (n * a + (i + b)) ≡ g (i + b) a
         passed a b p q fit =
             let low : n * (a + 1) ≤ n * k = mul-le-mul_left n (omega arith) in
-            let one_more : n * (a + 1) ≡ n * a + n = times_more n a in
-            put-below held (n * k + i) w x y v h.long fit (n * a + (i + b)) (omega arith) ∙ h.here a b p q
+            let one_more_lem : n * (a + 1) ≡ n * a + n = times_more n a in
+            put_below held (n * k + i) w x y v h.long fit (n * a + (i + b)) (omega arith) ∙ h.here a b p q
 
         lane : (b : ℕ) → b < 4 → n * k + i + 4 ≤ 480
-            → E (putComplex held (n * k + i) w x y v) (n * k + (i + b)) ≡ g (i + b) k
+            → E (put_complex held (n * k + i) w x y v) (n * k + (i + b)) ≡ g (i + b) k
         lane zero q fit = let e : n * k + (i + 0) ≡ n * k + i = omega arith in let e' : i + 0 ≡ i = omega arith in
-            rw (e, e') (put-0 held (n * k + i) w x y v h.long fit ∙ e₀)
+            rw (e, e') (put_0 held (n * k + i) w x y v h.long fit ∙ e₀)
         lane (suc zero) q fit = let e : n * k + (i + 1) ≡ n * k + i + 1 = omega arith in
             rw e (put_1 held (n * k + i) w x y v h.long fit ∙ e₁)
         lane (suc (suc zero)) q fit = let e : n * k + (i + 2) ≡ n * k + i + 2 = omega arith in
@@ -196,17 +196,17 @@ module _ (r n : ℕ) (g : ℕ → ℕ → Complex Float) (whole : n * r ≡ 480)
         lane (suc (suc (suc (suc b)))) q fit = absurd (omega arith)
 
         now : (a b : ℕ) → a ≡ k → b < 4 → n * k + i + 4 ≤ 480
-            → E (putComplex held (n * k + i) w x y v) (n * a + (i + b)) ≡ g (i + b) a
+            → E (put_complex held (n * k + i) w x y v) (n * a + (i + b)) ≡ g (i + b) a
         now a b e q fit = rw e (lane b q fit)
 
     pub lay_at : (k : ℕ) {p : ℕ} {held : List Float} {w x y v : Cx} → p ≡ n * k + i → Laying r n g i k held → k < r
         → i + 4 ≤ n
-        → complexOf w ≡ g i k → complexOf x ≡ g (i + 1) k → complexOf y ≡ g (i + 2) k → complexOf v ≡ g (i + 3) k
-        → Laying r n g i (k + 1) (putComplex held p w x y v)
-    lay_at k e h inside room e₀ e₁ e₂ e₃ = rw e (lay-more k h inside room e₀ e₁ e₂ e₃)
+        → complex_of w ≡ g i k → complex_of x ≡ g (i + 1) k → complex_of y ≡ g (i + 2) k → complex_of v ≡ g (i + 3) k
+        → Laying r n g i (k + 1) (put_complex held p w x y v)
+    lay_at k e h inside room e₀ e₁ e₂ e₃ = rw e (lay_more k h inside room e₀ e₁ e₂ e₃)
 
-    pub lay-end : {held : List Float} → Laying r n g i r held → Laid r n g (i + 4) held
-    lay-end {held} h =
+    pub lay_end : {held : List Float} → Laying r n g i r held → Laid r n g (i + 4) held
+    lay_end {held} h =
         record {
           long = h.long;
           behind = λ a b p q. ⊎_elim (λ z. h.behind a b p z) (λ z. late a b p q z) (below_or b i);
@@ -221,115 +221,115 @@ module _ (r n : ℕ) (g : ℕ → ℕ → Complex Float) (whole : n * r ≡ 480)
   unfolding complexes
   laid pos {held} h =
       let f : ℕ → Float = λ j. cond (ltb j 480) (g (j % n) (j / n)).re (g ((j - 480) % n) ((j - 480) / n)).im in
-      ext_get_or nan held (tab 960 f) (h.long ∙ sym (length-tab 960 f))
-      (λ j room. let inside : j < 960 = omega (arith, h.long) in each j inside ∙ sym (getD-tab 960 f j nan inside))
+      ext_get_or nan held (tab 960 f) (h.long ∙ sym (length_tab 960 f))
+      (λ j room. let inside : j < 960 = omega (arith, h.long) in each j inside ∙ sym (get_d_tab 960 f j nan inside))
     where
-      whole-entry : (j : ℕ) → j < 480 → E held j ≡ g (j % n) (j / n)
-      whole-entry j q =
+      whole_entry : (j : ℕ) → j < 480 → E held j ≡ g (j % n) (j / n)
+      whole_entry j q =
           let small : j / n < r = (div-lt_iff_lt-mul pos).1 (omega (arith, mul_comm n r)) in
           rw (div-add-mod j n) at (h.behind (j / n) (j % n) small (mod-lt j pos))
 
       each : (j : ℕ) → j < 960
           → at held j ≡ cond (ltb j 480) (g (j % n) (j / n)).re (g ((j - 480) % n) ((j - 480) / n)).im
       each j q = ⊎_elim
-          (λ z. rw (lt-ltb j 480 z) (ap (λ (e : Complex Float). e.re) (whole-entry j z)))
+          (λ z. rw (lt-ltb j 480 z) (ap (λ (e : Complex Float). e.re) (whole_entry j z)))
           (λ z. let e : 480 + (j - 480) ≡ j = omega arith in let low : j - 480 < 480 = omega arith in
           let got : at held (480 + (j - 480)) ≡ (g ((j - 480) % n) ((j - 480) / n)).im =
-          ap (λ (e : Complex Float). e.im) (whole-entry (j - 480) low) in
+          ap (λ (e : Complex Float). e.im) (whole_entry (j - 480) low) in
           rw (le-ltb j 480 z) (rw e at got))
           (below_or j 480)
 
   -- after the last lane
-  pub laid-all : 0 < n → (i : ℕ) {held : List Float} → i ≤ n → n ≤ i → Laid r n g i held → held ≡ stage n g
-  laid-all pos i below above h = let e : i ≡ n = omega arith in laid pos (rw e at h)
+  pub laid_all : 0 < n → (i : ℕ) {held : List Float} → i ≤ n → n ≤ i → Laid r n g i held → held ≡ stage n g
+  laid_all pos i below above h = let e : i ≡ n = omega arith in laid pos (rw e at h)
 
 -- one more put onto what is known
-pub then-put : {last before xs : List Float} (i : ℕ) (w x y v : Cx) → last ≡ putComplex before i w x y v → before ≡ xs
-    → last ≡ putComplex xs i w x y v
-then-put i w x y v e d = e ∙ ap (λ (l : List Float). putComplex l i w x y v) d
+pub then_put : {last before xs : List Float} (i : ℕ) (w x y v : Cx) → last ≡ put_complex before i w x y v → before ≡ xs
+    → last ≡ put_complex xs i w x y v
+then_put i w x y v e d = e ∙ ap (λ (l : List Float). put_complex l i w x y v) d
 
 -- ---- the bins of four lanes
-pub laid-twos : (g : ℕ → ℕ → Complex Float) (i : ℕ) {held now : List Float} {w x y v : Twos} → i + 4 ≤ 240
+pub laid_twos : (g : ℕ → ℕ → Complex Float) (i : ℕ) {held now : List Float} {w x y v : Twos} → i + 4 ≤ 240
     → Laid 2 240 g i held
-    → w ≡ twos (g i) → x ≡ twos (g (i + 1)) → y ≡ twos (g (i + 2)) → v ≡ twos (g (i + 3)) → now ≡ putTwos held i w x y v
+    → w ≡ twos (g i) → x ≡ twos (g (i + 1)) → y ≡ twos (g (i + 2)) → v ≡ twos (g (i + 3)) → now ≡ put_twos held i w x y v
     → Laid 2 240 g (i + 4) now
-unfolding putTwos
-laid-twos g i room h p q u t e =
-    rw e (lay-end 2 240 g refl i
+unfolding put_twos
+laid_twos g i room h p q u t e =
+    rw e (lay_end 2 240 g refl i
     (lay_at 2 240 g refl i 1 (omega arith)
-    (lay_at 2 240 g refl i 0 (omega arith) (lay-begin 2 240 g refl i h) (omega arith) room
-    (ap (λ (s : Twos). complexOf s.a) p) (ap (λ (s : Twos). complexOf s.a) q)
-    (ap (λ (s : Twos). complexOf s.a) u) (ap (λ (s : Twos). complexOf s.a) t)) (omega arith) room
-    (ap (λ (s : Twos). complexOf s.b) p) (ap (λ (s : Twos). complexOf s.b) q)
-    (ap (λ (s : Twos). complexOf s.b) u) (ap (λ (s : Twos). complexOf s.b) t)))
+    (lay_at 2 240 g refl i 0 (omega arith) (lay_begin 2 240 g refl i h) (omega arith) room
+    (ap (λ (s : Twos). complex_of s.a) p) (ap (λ (s : Twos). complex_of s.a) q)
+    (ap (λ (s : Twos). complex_of s.a) u) (ap (λ (s : Twos). complex_of s.a) t)) (omega arith) room
+    (ap (λ (s : Twos). complex_of s.b) p) (ap (λ (s : Twos). complex_of s.b) q)
+    (ap (λ (s : Twos). complex_of s.b) u) (ap (λ (s : Twos). complex_of s.b) t)))
 
-pub laid-threes : (g : ℕ → ℕ → Complex Float) (i : ℕ) {held now : List Float} {w x y v : Threes} → i + 4 ≤ 160
+pub laid_threes : (g : ℕ → ℕ → Complex Float) (i : ℕ) {held now : List Float} {w x y v : Threes} → i + 4 ≤ 160
     → Laid 3 160 g i held
     → w ≡ threes (g i) → x ≡ threes (g (i + 1)) → y ≡ threes (g (i + 2)) → v ≡ threes (g (i + 3))
-    → now ≡ putThrees held i w x y v → Laid 3 160 g (i + 4) now
-unfolding putThrees
-laid-threes g i room h p q u t e =
-    rw e (lay-end 3 160 g refl i
+    → now ≡ put_threes held i w x y v → Laid 3 160 g (i + 4) now
+unfolding put_threes
+laid_threes g i room h p q u t e =
+    rw e (lay_end 3 160 g refl i
     (lay_at 3 160 g refl i 2 (omega arith)
     (lay_at 3 160 g refl i 1 (omega arith)
-    (lay_at 3 160 g refl i 0 (omega arith) (lay-begin 3 160 g refl i h) (omega arith) room
-    (ap (λ (s : Threes). complexOf s.a) p) (ap (λ (s : Threes). complexOf s.a) q)
-    (ap (λ (s : Threes). complexOf s.a) u) (ap (λ (s : Threes). complexOf s.a) t)) (omega arith) room
-    (ap (λ (s : Threes). complexOf s.b) p) (ap (λ (s : Threes). complexOf s.b) q)
-    (ap (λ (s : Threes). complexOf s.b) u) (ap (λ (s : Threes). complexOf s.b) t)) (omega arith) room
-    (ap (λ (s : Threes). complexOf s.d) p) (ap (λ (s : Threes). complexOf s.d) q)
-    (ap (λ (s : Threes). complexOf s.d) u) (ap (λ (s : Threes). complexOf s.d) t)))
+    (lay_at 3 160 g refl i 0 (omega arith) (lay_begin 3 160 g refl i h) (omega arith) room
+    (ap (λ (s : Threes). complex_of s.a) p) (ap (λ (s : Threes). complex_of s.a) q)
+    (ap (λ (s : Threes). complex_of s.a) u) (ap (λ (s : Threes). complex_of s.a) t)) (omega arith) room
+    (ap (λ (s : Threes). complex_of s.b) p) (ap (λ (s : Threes). complex_of s.b) q)
+    (ap (λ (s : Threes). complex_of s.b) u) (ap (λ (s : Threes). complex_of s.b) t)) (omega arith) room
+    (ap (λ (s : Threes). complex_of s.d) p) (ap (λ (s : Threes). complex_of s.d) q)
+    (ap (λ (s : Threes). complex_of s.d) u) (ap (λ (s : Threes). complex_of s.d) t)))
 
-pub laid-fours : (g : ℕ → ℕ → Complex Float) (i : ℕ) {held now : List Float} {w x y v : Fours} → i + 4 ≤ 120
+pub laid_fours : (g : ℕ → ℕ → Complex Float) (i : ℕ) {held now : List Float} {w x y v : Fours} → i + 4 ≤ 120
     → Laid 4 120 g i held
     → w ≡ fours (g i) → x ≡ fours (g (i + 1)) → y ≡ fours (g (i + 2)) → v ≡ fours (g (i + 3))
-    → now ≡ putFours held i w x y v → Laid 4 120 g (i + 4) now
-unfolding putFours
-laid-fours g i room h p q u t e =
-    rw e (lay-end 4 120 g refl i
+    → now ≡ put_fours held i w x y v → Laid 4 120 g (i + 4) now
+unfolding put_fours
+laid_fours g i room h p q u t e =
+    rw e (lay_end 4 120 g refl i
     (lay_at 4 120 g refl i 3 (omega arith)
     (lay_at 4 120 g refl i 2 (omega arith)
     (lay_at 4 120 g refl i 1 (omega arith)
-    (lay_at 4 120 g refl i 0 (omega arith) (lay-begin 4 120 g refl i h) (omega arith) room
-    (ap (λ (s : Fours). complexOf s.a) p) (ap (λ (s : Fours). complexOf s.a) q)
-    (ap (λ (s : Fours). complexOf s.a) u) (ap (λ (s : Fours). complexOf s.a) t)) (omega arith) room
-    (ap (λ (s : Fours). complexOf s.b) p) (ap (λ (s : Fours). complexOf s.b) q)
-    (ap (λ (s : Fours). complexOf s.b) u) (ap (λ (s : Fours). complexOf s.b) t)) (omega arith) room
-    (ap (λ (s : Fours). complexOf s.d) p) (ap (λ (s : Fours). complexOf s.d) q)
-    (ap (λ (s : Fours). complexOf s.d) u) (ap (λ (s : Fours). complexOf s.d) t)) (omega arith) room
-    (ap (λ (s : Fours). complexOf s.e) p) (ap (λ (s : Fours). complexOf s.e) q)
-    (ap (λ (s : Fours). complexOf s.e) u) (ap (λ (s : Fours). complexOf s.e) t)))
+    (lay_at 4 120 g refl i 0 (omega arith) (lay_begin 4 120 g refl i h) (omega arith) room
+    (ap (λ (s : Fours). complex_of s.a) p) (ap (λ (s : Fours). complex_of s.a) q)
+    (ap (λ (s : Fours). complex_of s.a) u) (ap (λ (s : Fours). complex_of s.a) t)) (omega arith) room
+    (ap (λ (s : Fours). complex_of s.b) p) (ap (λ (s : Fours). complex_of s.b) q)
+    (ap (λ (s : Fours). complex_of s.b) u) (ap (λ (s : Fours). complex_of s.b) t)) (omega arith) room
+    (ap (λ (s : Fours). complex_of s.d) p) (ap (λ (s : Fours). complex_of s.d) q)
+    (ap (λ (s : Fours). complex_of s.d) u) (ap (λ (s : Fours). complex_of s.d) t)) (omega arith) room
+    (ap (λ (s : Fours). complex_of s.e) p) (ap (λ (s : Fours). complex_of s.e) q)
+    (ap (λ (s : Fours). complex_of s.e) u) (ap (λ (s : Fours). complex_of s.e) t)))
 
-pub laid-fives : (g : ℕ → ℕ → Complex Float) (i : ℕ) {held now : List Float} {w x y v : Fives} → i + 4 ≤ 96
+pub laid_fives : (g : ℕ → ℕ → Complex Float) (i : ℕ) {held now : List Float} {w x y v : Fives} → i + 4 ≤ 96
     → Laid 5 96 g i held
     → w ≡ fives (g i) → x ≡ fives (g (i + 1)) → y ≡ fives (g (i + 2)) → v ≡ fives (g (i + 3))
-    → now ≡ putFives held i w x y v → Laid 5 96 g (i + 4) now
-unfolding putFives
-laid-fives g i room h p q u t e =
-    rw e (lay-end 5 96 g refl i
+    → now ≡ put_fives held i w x y v → Laid 5 96 g (i + 4) now
+unfolding put_fives
+laid_fives g i room h p q u t e =
+    rw e (lay_end 5 96 g refl i
     (lay_at 5 96 g refl i 4 (omega arith)
     (lay_at 5 96 g refl i 3 (omega arith)
     (lay_at 5 96 g refl i 2 (omega arith)
     (lay_at 5 96 g refl i 1 (omega arith)
-    (lay_at 5 96 g refl i 0 (omega arith) (lay-begin 5 96 g refl i h) (omega arith) room
-    (ap (λ (s : Fives). complexOf s.a) p) (ap (λ (s : Fives). complexOf s.a) q)
-    (ap (λ (s : Fives). complexOf s.a) u) (ap (λ (s : Fives). complexOf s.a) t)) (omega arith) room
-    (ap (λ (s : Fives). complexOf s.b) p) (ap (λ (s : Fives). complexOf s.b) q)
-    (ap (λ (s : Fives). complexOf s.b) u) (ap (λ (s : Fives). complexOf s.b) t)) (omega arith) room
-    (ap (λ (s : Fives). complexOf s.d) p) (ap (λ (s : Fives). complexOf s.d) q)
-    (ap (λ (s : Fives). complexOf s.d) u) (ap (λ (s : Fives). complexOf s.d) t)) (omega arith) room
-    (ap (λ (s : Fives). complexOf s.e) p) (ap (λ (s : Fives). complexOf s.e) q)
-    (ap (λ (s : Fives). complexOf s.e) u) (ap (λ (s : Fives). complexOf s.e) t)) (omega arith) room
-    (ap (λ (s : Fives). complexOf s.f) p) (ap (λ (s : Fives). complexOf s.f) q)
-    (ap (λ (s : Fives). complexOf s.f) u) (ap (λ (s : Fives). complexOf s.f) t)))
+    (lay_at 5 96 g refl i 0 (omega arith) (lay_begin 5 96 g refl i h) (omega arith) room
+    (ap (λ (s : Fives). complex_of s.a) p) (ap (λ (s : Fives). complex_of s.a) q)
+    (ap (λ (s : Fives). complex_of s.a) u) (ap (λ (s : Fives). complex_of s.a) t)) (omega arith) room
+    (ap (λ (s : Fives). complex_of s.b) p) (ap (λ (s : Fives). complex_of s.b) q)
+    (ap (λ (s : Fives). complex_of s.b) u) (ap (λ (s : Fives). complex_of s.b) t)) (omega arith) room
+    (ap (λ (s : Fives). complex_of s.d) p) (ap (λ (s : Fives). complex_of s.d) q)
+    (ap (λ (s : Fives). complex_of s.d) u) (ap (λ (s : Fives). complex_of s.d) t)) (omega arith) room
+    (ap (λ (s : Fives). complex_of s.e) p) (ap (λ (s : Fives). complex_of s.e) q)
+    (ap (λ (s : Fives). complex_of s.e) u) (ap (λ (s : Fives). complex_of s.e) t)) (omega arith) room
+    (ap (λ (s : Fives). complex_of s.f) p) (ap (λ (s : Fives). complex_of s.f) q)
+    (ap (λ (s : Fives). complex_of s.f) u) (ap (λ (s : Fives). complex_of s.f) t)))
 
 -- ---- lists filled from the front
 module _ (n : ℕ) (f : ℕ → Float) where
   pub filled_more : (i : ℕ) {held now : List Float} {a b c d : Float} → i + 4 ≤ n → Filled n f i held → a ≡ f i
       → b ≡ f (i + 1) → c ≡ f (i + 2) → d ≡ f (i + 3)
-      → now ≡ putFour held i a b c d → Filled n f (i + 4) now
+      → now ≡ put_four held i a b c d → Filled n f (i + 4) now
   filled_more i {held} {now} {a} {b} {c} {d} room h p q u v e = rw e (record {
-    long = four-length held i a b c d ∙ h.long;
+    long = four_length held i a b c d ∙ h.long;
     behind = λ j k. ⊎_elim (λ z. four_below held i a b c d j z ∙ h.behind j z)
         (λ z. let s : i + (j - i) ≡ j = omega arith in rw s at (lane (j - i) (omega arith))) (below_or j i);
   })
@@ -337,31 +337,31 @@ module _ (n : ℕ) (f : ℕ → Float) where
       fits : i + 4 ≤ length held
       fits = omega (arith, h.long)
 
-      lane : (k : ℕ) → k < 4 → at (putFour held i a b c d) (i + k) ≡ f (i + k)
-      lane zero z = let s : i + 0 ≡ i = omega arith in rw s (four-0 held i a b c d fits ∙ p)
-      lane (suc zero) z = four-1 held i a b c d fits ∙ q
-      lane (suc (suc zero)) z = four-2 held i a b c d fits ∙ u
-      lane (suc (suc (suc zero))) z = four-3 held i a b c d fits ∙ v
+      lane : (k : ℕ) → k < 4 → at (put_four held i a b c d) (i + k) ≡ f (i + k)
+      lane zero z = let s : i + 0 ≡ i = omega arith in rw s (four_0 held i a b c d fits ∙ p)
+      lane (suc zero) z = four_1 held i a b c d fits ∙ q
+      lane (suc (suc zero)) z = four_2 held i a b c d fits ∙ u
+      lane (suc (suc (suc zero))) z = four_3 held i a b c d fits ∙ v
       lane (suc (suc (suc (suc k)))) z = absurd (omega arith)
 
-  pub filled-all : {held : List Float} → Filled n f n held → held ≡ tab n f
-  filled-all {held} h =
-      ext_get_or nan held (tab n f) (h.long ∙ sym (length-tab n f))
-      (λ j room. let inside : j < n = omega (arith, h.long) in h.behind j inside ∙ sym (getD-tab n f j nan inside))
+  pub filled_all : {held : List Float} → Filled n f n held → held ≡ tab n f
+  filled_all {held} h =
+      ext_get_or nan held (tab n f) (h.long ∙ sym (length_tab n f))
+      (λ j room. let inside : j < n = omega (arith, h.long) in h.behind j inside ∙ sym (get_d_tab n f j nan inside))
 
 -- ---- single lanes
-pub laid-ones : (f : ℕ → Complex Float) (i : ℕ) {held now : List Float} {w x y v : Cx} → i + 4 ≤ 480
+pub laid_ones : (f : ℕ → Complex Float) (i : ℕ) {held now : List Float} {w x y v : Cx} → i + 4 ≤ 480
     → Laid 1 480 (λ b a. f b) i held
-    → w ≡ cx (f i) → x ≡ cx (f (i + 1)) → y ≡ cx (f (i + 2)) → v ≡ cx (f (i + 3)) → now ≡ putComplex held i w x y v
+    → w ≡ cx (f i) → x ≡ cx (f (i + 1)) → y ≡ cx (f (i + 2)) → v ≡ cx (f (i + 3)) → now ≡ put_complex held i w x y v
     → Laid 1 480 (λ b a. f b) (i + 4) now
-laid-ones f i room h p q u t e =
-    rw e (lay-end 1 480 (λ b a. f b) refl i
-    (lay_at 1 480 (λ b a. f b) refl i 0 (omega arith) (lay-begin 1 480 (λ b a. f b) refl i h) (omega arith) room
-    (ap complexOf p) (ap complexOf q) (ap complexOf u) (ap complexOf t)))
+laid_ones f i room h p q u t e =
+    rw e (lay_end 1 480 (λ b a. f b) refl i
+    (lay_at 1 480 (λ b a. f b) refl i 0 (omega arith) (lay_begin 1 480 (λ b a. f b) refl i h) (omega arith) room
+    (ap complex_of p) (ap complex_of q) (ap complex_of u) (ap complex_of t)))
 
-pub complexes-same : (f g : ℕ → Complex Float) → ((j : ℕ) → j < 480 → f j ≡ g j) → complexes f ≡ complexes g
+pub complexes_same : (f g : ℕ → Complex Float) → ((j : ℕ) → j < 480 → f j ≡ g j) → complexes f ≡ complexes g
 unfolding complexes
-complexes-same f g h = tab-same 960 _ _ (λ j q. each j q)
+complexes_same f g h = tab_same 960 _ _ (λ j q. each j q)
   where
     each : (j : ℕ) → j < 960
         → cond (ltb j 480) (f j).re (f (j - 480)).im ≡ cond (ltb j 480) (g j).re (g (j - 480)).im
@@ -370,8 +370,8 @@ complexes-same f g h = tab-same 960 _ _ (λ j q. each j q)
         let low : j - 480 < 480 = omega arith in
         simp (le-ltb j 480 z) (ap (λ (e : Complex Float). e.im) (h (j - 480) low))) (below_or j 480)
 
-pub laid-single : (f : ℕ → Complex Float) (i : ℕ) {held : List Float} → i ≤ 480 → 480 ≤ i
+pub laid_single : (f : ℕ → Complex Float) (i : ℕ) {held : List Float} → i ≤ 480 → 480 ≤ i
     → Laid 1 480 (λ b a. f b) i held → held ≡ complexes f
-laid-single f i below above h =
-    laid-all 1 480 (λ b a. f b) refl (omega arith) i below above h
-    ∙ complexes-same (λ j. f (j % 480)) f (λ j q. let e : j % 480 ≡ j = omega arith in ap f e)
+laid_single f i below above h =
+    laid_all 1 480 (λ b a. f b) refl (omega arith) i below above h
+    ∙ complexes_same (λ j. f (j % 480)) f (λ j q. let e : j % 480 ≡ j = omega arith in ap f e)

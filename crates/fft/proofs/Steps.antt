@@ -5,15 +5,15 @@ use Rattle.rules.proofs.Common.{ℕ, ◌+◌, ◌-◌, ◌*◌, ◌/◌, ◌%◌
 use native.Mathlib.Nat.{add-mul, mul-add, mul-mul-mul_comm, mul_assoc, mul_left_comm, div-add-mod}
 use native.Mathlib.Omega.{arith}
 use borrow.Author.Tests.{lt-ltb, le-ltb}
-use Rattle.rules.proofs.Lists.{getD-tab}
+use Rattle.rules.proofs.Lists.{get_d_tab}
 use Rattle.fft.specs.Ops.{Ops, Complex}
 use Rattle.fft.specs.Exact.{Ring, Cosines}
-use Rattle.fft.specs.Fast.{complexAt, complexes, ofTwo, ofThree, of_four, ofFive, first, angle, row2, row3, row4}
+use Rattle.fft.specs.Fast.{complex_at, complexes, of_two, of_three, of_four, of_five, first, angle, row2, row3, row4}
 use Rattle.fft.specs.Fast.{row5, stage, transformed}
-use Rattle.fft.proofs.Circle.{zeroC, plusC, timesC, both, times-assocC, times-oneC, sumC, sum_same, sum-times}
-use Rattle.fft.proofs.Circle.{sum-dealt, e, e-start, e-turns, e-plus}
-use Rattle.fft.proofs.Solver.{nought-plus}
-use Rattle.fft.proofs.Butterflies.{two-right, three-right, four-right, five-right}
+use Rattle.fft.proofs.Circle.{zero_c, plus_c, times_c, both, times_assoc_c, times_one_c, sum_c, sum_same, sum_times}
+use Rattle.fft.proofs.Circle.{sum_dealt, e, e_start, e_turns, e_plus}
+use Rattle.fft.proofs.Solver.{nought_plus}
+use Rattle.fft.proofs.Butterflies.{two_right, three_right, four_right, five_right}
 
 -- (r t + j)(s q + k)
 expand : (r t j s q k : ℕ) → (r * t + j) * (s * q + k) ≡ r * s * (t * q) + r * (t * k) + (s * (j * q) + j * k)
@@ -129,51 +129,51 @@ module _ {A : Type 0} (o : Ops A) (R : Ring o) (c : ℕ → A) (K : Cosines o R.
 
   infixl 70 ◌×ᶜ◌
   abbrev ◌×ᶜ◌ : Complex A → Complex A → Complex A
-  x ×ᶜ y = timesC o x y
+  x ×ᶜ y = times_c o x y
 
-  pub entry-complexes : (f : ℕ → Complex A) (j : ℕ) → j < 480 → complexAt o (complexes f) j ≡ f j
+  pub entry_complexes : (f : ℕ → Complex A) (j : ℕ) → j < 480 → complex_at o (complexes f) j ≡ f j
   unfolding complexes
-  entry-complexes f j h =
+  entry_complexes f j h =
       let g : ℕ → A = λ i. cond (ltb i 480) (f i).re (f (i - 480)).im in
       let same : 480 + j - 480 ≡ j = omega arith in
-      both o R (getD-tab 960 g j o.beyond (omega arith) ∙ simp (lt-ltb j 480 h))
-      (getD-tab 960 g (480 + j) o.beyond (omega arith) ∙ simp (le-ltb (480 + j) 480 (omega arith), same))
+      both o R (get_d_tab 960 g j o.beyond (omega arith) ∙ simp (lt-ltb j 480 h))
+      (get_d_tab 960 g (480 + j) o.beyond (omega arith) ∙ simp (le-ltb (480 + j) 480 (omega arith), same))
 
   module _ (z : ℕ → Complex A) where
     -- the place n * k + p holds bin k of the transform of the s numbers z[p], z[p + n], ..
     abbrev pub Done : ℕ → ℕ → List A → Type 0
     Done s n xs = (k p : ℕ) → k < s → p < n
-        → complexAt o xs (n * k + p) ≡ sumC o R s (λ t. z (p + n * t) ×ᶜ E (2 * n * (t * k)))
+        → complex_at o xs (n * k + p) ≡ sum_c o R s (λ t. z (p + n * t) ×ᶜ E (2 * n * (t * k)))
 
     -- three turns, one after the other
     turns : (x : Complex A) (α β γ δ u : ℕ) → δ ≡ α + β + γ + 960 * u → x ×ᶜ E α ×ᶜ E β ×ᶜ E γ ≡ x ×ᶜ E δ
     turns x α β γ δ u h =
-        times-assocC o R (x ×ᶜ E α) (E β) (E γ) ∙ times-assocC o R x (E α) (E β ×ᶜ E γ)
+        times_assoc_c o R (x ×ᶜ E α) (E β) (E γ) ∙ times_assoc_c o R x (E α) (E β ×ᶜ E γ)
         ∙ ap (λ (w : Complex A). x ×ᶜ w)
-        (sym (times-assocC o R (E α) (E β) (E γ)) ∙ ap (λ (w : Complex A). w ×ᶜ E γ) (sym (e-plus o R c K α β))
-        ∙ sym (e-plus o R c K (α + β) γ)
-        ∙ sym (e-turns o R c K (α + β + γ) u) ∙ ap E (sym h))
+        (sym (times_assoc_c o R (E α) (E β) (E γ)) ∙ ap (λ (w : Complex A). w ×ᶜ E γ) (sym (e_plus o R c K α β))
+        ∙ sym (e_plus o R c K (α + β) γ)
+        ∙ sym (e_turns o R c K (α + β + γ) u) ∙ ap E (sym h))
 
     module _ (r m s : ℕ) (plan : Plan r m s) (row : ℕ → ℕ → Complex A) (xs : List A) where
       abbrev Rows : Type 0
       Rows = (i q : ℕ) → i < m * s → q < r → row i q
-          ≡ sumC o R r (λ j. complexAt o xs (r * m * (i / m) + i % m + m * j) ×ᶜ E (2 * m * (j * (i / m))) ×ᶜ E
+          ≡ sum_c o R r (λ j. complex_at o xs (r * m * (i / m) + i % m + m * j) ×ᶜ E (2 * m * (j * (i / m))) ×ᶜ E
           (2 * (m * s) * (j * q)))
 
       -- number j of a lane, from the sums that the list holds
       number : Done s (r * m) xs → (B p j : ℕ) → B < r * s → p < m → j < r
-          → complexAt o xs (r * m * (B % s) + p + m * j) ×ᶜ E (2 * m * (j * (B % s))) ×ᶜ E (2 * (m * s) * (j * (B / s)))
-          ≡ sumC o R s (λ t. z (p + m * (r * t + j)) ×ᶜ E (2 * m * ((r * t + j) * B)))
+          → complex_at o xs (r * m * (B % s) + p + m * j) ×ᶜ E (2 * m * (j * (B % s))) ×ᶜ E (2 * (m * s) * (j * (B / s)))
+          ≡ sum_c o R s (λ t. z (p + m * (r * t + j)) ×ᶜ E (2 * m * ((r * t + j) * B)))
       number done B p j hB hp hj =
-          let here : complexAt o xs (r * m * (B % s) + p + m * j)
-          ≡ sumC o R s (λ t. z (p + m * j + r * m * t) ×ᶜ E (2 * (r * m) * (t * (B % s)))) =
-          ap (λ (i : ℕ). complexAt o xs i) (plan.place (B % s) p j)
+          let here : complex_at o xs (r * m * (B % s) + p + m * j)
+          ≡ sum_c o R s (λ t. z (p + m * j + r * m * t) ×ᶜ E (2 * (r * m) * (t * (B % s)))) =
+          ap (λ (i : ℕ). complex_at o xs i) (plan.place (B % s) p j)
           ∙ done (B % s) (p + m * j) (plan.small B hB) (plan.next j p hj hp) in
           ap (λ (v : Complex A). v ×ᶜ E (2 * m * (j * (B % s))) ×ᶜ E (2 * (m * s) * (j * (B / s)))) here
           ∙ ap (λ (v : Complex A). v ×ᶜ E (2 * (m * s) * (j * (B / s))))
-          (sum-times o R s (λ t. z (p + m * j + r * m * t) ×ᶜ E (2 * (r * m) * (t * (B % s))))
+          (sum_times o R s (λ t. z (p + m * j + r * m * t) ×ᶜ E (2 * (r * m) * (t * (B % s))))
           (E (2 * m * (j * (B % s)))))
-          ∙ sum-times o R s (λ t. z (p + m * j + r * m * t) ×ᶜ E (2 * (r * m) * (t * (B % s))) ×ᶜ E
+          ∙ sum_times o R s (λ t. z (p + m * j + r * m * t) ×ᶜ E (2 * (r * m) * (t * (B % s))) ×ᶜ E
           (2 * m * (j * (B % s)))) (E (2 * (m * s) * (j * (B / s))))
           ∙ sum_same o R s _ _ (λ t b.
           turns (z (p + m * j + r * m * t)) (2 * (r * m) * (t * (B % s))) (2 * m * (j * (B % s)))
@@ -183,49 +183,49 @@ module _ {A : Type 0} (o : Ops A) (R : Ring o) (c : ℕ → A) (K : Cosines o R.
       pub staged : Done s (r * m) xs → Rows → Done (r * s) m (stage (m * s) row)
       staged done rows B p hB hp =
           let small = plan.small B hB in
-          entry-complexes (λ j. row (j % (m * s)) (j / (m * s))) (m * B + p) (plan.inside B p hB hp)
+          entry_complexes (λ j. row (j % (m * s)) (j / (m * s))) (m * B + p) (plan.inside B p hB hp)
           ∙ ap (λ (i : ℕ). row i ((m * B + p) / (m * s))) (plan.lane B p hB hp)
           ∙ ap (λ (q : ℕ). row (m * (B % s) + p) q) (plan.bin B p hB hp)
           ∙ rows (m * (B % s) + p) (B / s) (plan.narrow (B % s) p small hp) (plan.few B hB)
-          ∙ ap (λ (k : ℕ). sumC o R r
-          (λ j. complexAt o xs (r * m * k + (m * (B % s) + p) % m + m * j) ×ᶜ E (2 * m * (j * k)) ×ᶜ E
+          ∙ ap (λ (k : ℕ). sum_c o R r
+          (λ j. complex_at o xs (r * m * k + (m * (B % s) + p) % m + m * j) ×ᶜ E (2 * m * (j * k)) ×ᶜ E
           (2 * (m * s) * (j * (B / s))))) (plan.block (B % s) p small hp)
-          ∙ ap (λ (w : ℕ). sumC o R r
-          (λ j. complexAt o xs (r * m * (B % s) + w + m * j) ×ᶜ E (2 * m * (j * (B % s))) ×ᶜ E
+          ∙ ap (λ (w : ℕ). sum_c o R r
+          (λ j. complex_at o xs (r * m * (B % s) + w + m * j) ×ᶜ E (2 * m * (j * (B % s))) ×ᶜ E
           (2 * (m * s) * (j * (B / s))))) (plan.offset (B % s) p small hp)
           ∙ sum_same o R r _ _ (λ j hj. number done B p j hB hp hj)
-          ∙ sym (sum-dealt o R r s (λ t. z (p + m * t) ×ᶜ E (2 * m * (t * B))))
+          ∙ sym (sum_dealt o R r s (λ t. z (p + m * t) ×ᶜ E (2 * m * (t * B))))
 
     -- ---- the five stages
     module _ (xs : List A) where
-      at_first : (u v β : ℕ) → u ≡ v → β ≡ 0 → complexAt o xs u ≡ complexAt o xs v ×ᶜ E β
+      at_first : (u v β : ℕ) → u ≡ v → β ≡ 0 → complex_at o xs u ≡ complex_at o xs v ×ᶜ E β
       at_first u v β p q =
-          sym (times-oneC o R (complexAt o xs u))
-          ∙ ap (λ (w : Complex A). complexAt o xs u ×ᶜ w) (sym (e-start o R c K) ∙ ap E (sym q))
-          ∙ ap (λ (i : ℕ). complexAt o xs i ×ᶜ E β) p
+          sym (times_one_c o R (complex_at o xs u))
+          ∙ ap (λ (w : Complex A). complex_at o xs u ×ᶜ w) (sym (e_start o R c K) ∙ ap E (sym q))
+          ∙ ap (λ (i : ℕ). complex_at o xs i ×ᶜ E β) p
 
-      at_turn : (u v α β : ℕ) → u ≡ v → α ≡ β → complexAt o xs u ×ᶜ E α ≡ complexAt o xs v ×ᶜ E β
-      at_turn u v α β p q = ap (λ (i : ℕ). complexAt o xs i ×ᶜ E α) p ∙ ap (λ (a : ℕ). complexAt o xs v ×ᶜ E a) q
+      at_turn : (u v α β : ℕ) → u ≡ v → α ≡ β → complex_at o xs u ×ᶜ E α ≡ complex_at o xs v ×ᶜ E β
+      at_turn u v α β p q = ap (λ (i : ℕ). complex_at o xs i ×ᶜ E α) p ∙ ap (λ (a : ℕ). complex_at o xs v ×ᶜ E a) q
 
-      two-same : (q : ℕ) {a b a' b' : Complex A} → a ≡ a' → b ≡ b' → ofTwo o a b q ≡ ofTwo o a' b' q
-      two-same q pa pb = rw (pa, pb)
+      two_same : (q : ℕ) {a b a' b' : Complex A} → a ≡ a' → b ≡ b' → of_two o a b q ≡ of_two o a' b' q
+      two_same q pa pb = rw (pa, pb)
 
-      three-same : (q : ℕ) {a b d a' b' d' : Complex A} → a ≡ a' → b ≡ b' → d ≡ d'
-          → ofThree o c a b d q ≡ ofThree o c a' b' d' q
-      three-same q pa pb pd = rw (pa, pb, pd)
+      three_same : (q : ℕ) {a b d a' b' d' : Complex A} → a ≡ a' → b ≡ b' → d ≡ d'
+          → of_three o c a b d q ≡ of_three o c a' b' d' q
+      three_same q pa pb pd = rw (pa, pb, pd)
 
       four_same : (q : ℕ) {a b d e a' b' d' e' : Complex A} → a ≡ a' → b ≡ b' → d ≡ d' → e ≡ e'
           → of_four o a b d e q ≡ of_four o a' b' d' e' q
       four_same q pa pb pd pe = rw (pa, pb, pd, pe)
 
-      five-same : (q : ℕ) {a b d e f a' b' d' e' f' : Complex A} → a ≡ a' → b ≡ b' → d ≡ d' → e ≡ e' → f ≡ f'
-          → ofFive o c a b d e f q ≡ ofFive o c a' b' d' e' f' q
-      five-same q pa pb pd pe pf = rw (pa, pb, pd, pe, pf)
+      five_same : (q : ℕ) {a b d e f a' b' d' e' f' : Complex A} → a ≡ a' → b ≡ b' → d ≡ d' → e ≡ e' → f ≡ f'
+          → of_five o c a b d e f q ≡ of_five o c a' b' d' e' f' q
+      five_same q pa pb pd pe pf = rw (pa, pb, pd, pe, pf)
 
       rows5 : Rows 5 96 1 plan5 (row5 o c xs) xs
       unfolding row5
       rows5 i q h g =
-          five-same q
+          five_same q
           (at_first (i) (5 * 96 * (i / 96) + i % 96 + 96 * 0) (2 * 96 * (0 * (i / 96))) (omega arith) (omega arith))
           (at_first (i + 96) (5 * 96 * (i / 96) + i % 96 + 96 * 1) (2 * 96 * (1 * (i / 96))) (omega arith)
           (omega arith))
@@ -235,21 +235,21 @@ module _ {A : Type 0} (o : Ops A) (R : Ring o) (c : ℕ → A) (K : Cosines o R.
           (omega arith))
           (at_first (i + 384) (5 * 96 * (i / 96) + i % 96 + 96 * 4) (2 * 96 * (4 * (i / 96))) (omega arith)
           (omega arith))
-          ∙ five-right o R c K (λ j.
-          complexAt o xs (5 * 96 * (i / 96) + i % 96 + 96 * j) ×ᶜ E (2 * 96 * (j * (i / 96)))) q g
+          ∙ five_right o R c K (λ j.
+          complex_at o xs (5 * 96 * (i / 96) + i % 96 + 96 * j) ×ᶜ E (2 * 96 * (j * (i / 96)))) q g
 
       rows3 : Rows 3 32 5 plan3 (row3 o c 32 xs) xs
       unfolding row3
       rows3 i q h g =
-          three-same q
+          three_same q
           (at_first (first 3 32 i) (3 * 32 * (i / 32) + i % 32 + 32 * 0) (2 * 32 * (0 * (i / 32))) (omega arith)
           (omega arith))
           (at_turn (first 3 32 i + 32) (3 * 32 * (i / 32) + i % 32 + 32 * 1) (angle 32 i) (2 * 32 * (1 * (i / 32)))
           (omega arith) (omega arith))
           (at_turn (first 3 32 i + 2 * 32) (3 * 32 * (i / 32) + i % 32 + 32 * 2) (2 * angle 32 i)
           (2 * 32 * (2 * (i / 32))) (omega arith) (omega arith))
-          ∙ three-right o R c K (λ j.
-          complexAt o xs (3 * 32 * (i / 32) + i % 32 + 32 * j) ×ᶜ E (2 * 32 * (j * (i / 32)))) q g
+          ∙ three_right o R c K (λ j.
+          complex_at o xs (3 * 32 * (i / 32) + i % 32 + 32 * j) ×ᶜ E (2 * 32 * (j * (i / 32)))) q g
 
       rows4 : Rows 4 8 15 plan4 (row4 o c 8 xs) xs
       unfolding row4
@@ -262,16 +262,16 @@ module _ {A : Type 0} (o : Ops A) (R : Ring o) (c : ℕ → A) (K : Cosines o R.
           (omega arith) (omega arith))
           (at_turn (first 4 8 i + 3 * 8) (4 * 8 * (i / 8) + i % 8 + 8 * 3) (3 * angle 8 i) (2 * 8 * (3 * (i / 8)))
           (omega arith) (omega arith))
-          ∙ four-right o R c K (λ j. complexAt o xs (4 * 8 * (i / 8) + i % 8 + 8 * j) ×ᶜ E (2 * 8 * (j * (i / 8)))) q g
+          ∙ four_right o R c K (λ j. complex_at o xs (4 * 8 * (i / 8) + i % 8 + 8 * j) ×ᶜ E (2 * 8 * (j * (i / 8)))) q g
 
       rows2 : Rows 2 4 60 plan2 (row2 o c 4 xs) xs
       unfolding row2
       rows2 i q h g =
-          two-same q
+          two_same q
           (at_first (first 2 4 i) (2 * 4 * (i / 4) + i % 4 + 4 * 0) (2 * 4 * (0 * (i / 4))) (omega arith) (omega arith))
           (at_turn (first 2 4 i + 4) (2 * 4 * (i / 4) + i % 4 + 4 * 1) (angle 4 i) (2 * 4 * (1 * (i / 4))) (omega arith)
           (omega arith))
-          ∙ two-right o R c K (λ j. complexAt o xs (2 * 4 * (i / 4) + i % 4 + 4 * j) ×ᶜ E (2 * 4 * (j * (i / 4)))) q g
+          ∙ two_right o R c K (λ j. complex_at o xs (2 * 4 * (i / 4) + i % 4 + 4 * j) ×ᶜ E (2 * 4 * (j * (i / 4)))) q g
 
       rows1 : Rows 4 1 120 plan1 (row4 o c 1 xs) xs
       unfolding row4
@@ -284,25 +284,25 @@ module _ {A : Type 0} (o : Ops A) (R : Ring o) (c : ℕ → A) (K : Cosines o R.
           (omega arith) (omega arith))
           (at_turn (first 4 1 i + 3 * 1) (4 * 1 * (i / 1) + i % 1 + 1 * 3) (3 * angle 1 i) (2 * 1 * (3 * (i / 1)))
           (omega arith) (omega arith))
-          ∙ four-right o R c K (λ j. complexAt o xs (4 * 1 * (i / 1) + i % 1 + 1 * j) ×ᶜ E (2 * 1 * (j * (i / 1)))) q g
+          ∙ four_right o R c K (λ j. complex_at o xs (4 * 1 * (i / 1) + i % 1 + 1 * j) ×ᶜ E (2 * 1 * (j * (i / 1)))) q g
 
-    zero-plusC : (x : Complex A) → plusC o (zeroC o) x ≡ x
-    zero-plusC x = both o R (nought-plus o R x.re) (nought-plus o R x.im)
+    zero_plus_c : (x : Complex A) → plus_c o (zero_c o) x ≡ x
+    zero_plus_c x = both o R (nought_plus o R x.re) (nought_plus o R x.im)
 
-    begin : (zs : List A) → ((t : ℕ) → t < 480 → complexAt o zs t ≡ z t) → Done 1 480 zs
-    unfolding sumC
+    begin : (zs : List A) → ((t : ℕ) → t < 480 → complex_at o zs t ≡ z t) → Done 1 480 zs
+    unfolding sum_c
     begin zs same k p h g =
         let none : k ≡ 0 = omega arith in
         let here : 480 * k + p ≡ p = omega arith in
         let there : p + 480 * 0 ≡ p = omega arith in
         let flat : 2 * 480 * (0 * k) ≡ 0 = rw none in
-        ap (λ (i : ℕ). complexAt o zs i) here ∙ same p g ∙ sym (times-oneC o R (z p))
-        ∙ ap (λ (v : Complex A). z p ×ᶜ v) (sym (e-start o R c K) ∙ ap E (sym flat))
+        ap (λ (i : ℕ). complex_at o zs i) here ∙ same p g ∙ sym (times_one_c o R (z p))
+        ∙ ap (λ (v : Complex A). z p ×ᶜ v) (sym (e_start o R c K) ∙ ap E (sym flat))
         ∙ ap (λ (i : ℕ). z i ×ᶜ E (2 * 480 * (0 * k))) (sym there)
-        ∙ sym (zero-plusC (z (p + 480 * 0) ×ᶜ E (2 * 480 * (0 * k))))
+        ∙ sym (zero_plus_c (z (p + 480 * 0) ×ᶜ E (2 * 480 * (0 * k))))
 
-    pub whole : (zs : List A) → ((t : ℕ) → t < 480 → complexAt o zs t ≡ z t) → (k : ℕ) → k < 480
-        → complexAt o (transformed o c zs) k ≡ sumC o R 480 (λ t. z t ×ᶜ E (2 * (t * k)))
+    pub whole : (zs : List A) → ((t : ℕ) → t < 480 → complex_at o zs t ≡ z t) → (k : ℕ) → k < 480
+        → complex_at o (transformed o c zs) k ≡ sum_c o R 480 (λ t. z t ×ᶜ E (2 * (t * k)))
     unfolding transformed
     whole zs same k h =
         let y₁ = stage 96 (row5 o c zs) in
@@ -314,7 +314,7 @@ module _ {A : Type 0} (o : Ops A) (R : Ring o) (c : ℕ → A) (K : Cosines o R.
         let d₃ : Done 60 8 y₂ = staged 4 8 15 plan4 (row4 o c 8 z₁) z₁ d₂ (rows4 z₁) in
         let d₄ : Done 120 4 z₂ = staged 2 4 60 plan2 (row2 o c 4 y₂) y₂ d₃ (rows2 y₂) in
         let d₅ : Done 480 1 (stage 120 (row4 o c 1 z₂)) = staged 4 1 120 plan1 (row4 o c 1 z₂) z₂ d₄ (rows1 z₂) in
-        let at-k : k ≡ 1 * k + 0 = omega arith in
-        ap (λ (i : ℕ). complexAt o (stage 120 (row4 o c 1 z₂)) i) at-k ∙ d₅ k 0 h (omega arith)
+        let at_k : k ≡ 1 * k + 0 = omega arith in
+        ap (λ (i : ℕ). complex_at o (stage 120 (row4 o c 1 z₂)) i) at_k ∙ d₅ k 0 h (omega arith)
         ∙ sum_same o R 480 (λ t. z (0 + 1 * t) ×ᶜ E (2 * 1 * (t * k))) (λ t. z t ×ᶜ E (2 * (t * k)))
         (λ t b. let e₁ : 0 + 1 * t ≡ t = omega arith in ap (λ (i : ℕ). z i ×ᶜ E (2 * (t * k))) e₁)

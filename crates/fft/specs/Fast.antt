@@ -3,7 +3,7 @@
 -- are a list of 960 numbers: their real parts, and then their imaginary parts.
 use Rattle.rules.specs.Common.{ℕ, zero, suc, ◌+◌, ◌-◌, ◌*◌, ◌/◌, ◌%◌, cond, List, eqb, ltb}
 use Rattle.rules.specs.Tab.{tab}
-use Rattle.fft.specs.Ops.{Ops, Complex, elementAt}
+use Rattle.fft.specs.Ops.{Ops, Complex, element_at}
 
 -- The list of 480 complex numbers.
 unfoldable pub complexes : {A : Type 0} → (ℕ → Complex A) → List A
@@ -58,14 +58,14 @@ module _ {A : Type 0} (o : Ops A) where
   a · y = record { re = a ⊗ y.re; im = a ⊗ y.im }
 
   -- Number i of a list of complex numbers.
-  abbrev pub complexAt : List A → ℕ → Complex A
-  complexAt xs i = record { re = elementAt o xs i; im = elementAt o xs (480 + i) }
+  abbrev pub complex_at : List A → ℕ → Complex A
+  complex_at xs i = record { re = element_at o xs i; im = element_at o xs (480 + i) }
 
   -- ---- what needs no cosine
   -- Bin k of the transform of two numbers.
-  abbrev pub ofTwo : Complex A → Complex A → ℕ → Complex A
-  ofTwo a b zero = a +ᶜ b
-  ofTwo a b (suc k) = a -ᶜ b
+  abbrev pub of_two : Complex A → Complex A → ℕ → Complex A
+  of_two a b zero = a +ᶜ b
+  of_two a b (suc k) = a -ᶜ b
 
   -- Bin k of the transform of four numbers.
   abbrev pub of_four : Complex A → Complex A → Complex A → Complex A → ℕ → Complex A
@@ -76,68 +76,68 @@ module _ {A : Type 0} (o : Ops A) where
 
   -- Two samples as a complex number: the even one is the real part, the odd one the imaginary part.
   abbrev pub pair : List A → ℕ → Complex A
-  pair x i = record { re = elementAt o x (2 * i); im = elementAt o x (2 * i + 1) }
+  pair x i = record { re = element_at o x (2 * i); im = element_at o x (2 * i + 1) }
 
   -- All samples like that, for the forward transform.
-  unfoldable pub asComplex : List A → List A
-  asComplex x = complexes (pair x)
+  unfoldable pub as_complex : List A → List A
+  as_complex x = complexes (pair x)
 
   -- Bin k of a spectrum, for the inverse transform. Bins 0 and 480 are real.
   unfoldable pub bin_in : List A → ℕ → Complex A
   bin_in x k =
-      cond (eqb k 0) (record { re = elementAt o x 0; im = o.nought })
-      (cond (eqb k 480) (record { re = elementAt o x 959; im = o.nought })
-      (record { re = elementAt o x (2 * k - 1); im = elementAt o x (2 * k) }))
+      cond (eqb k 0) (record { re = element_at o x 0; im = o.nought })
+      (cond (eqb k 480) (record { re = element_at o x 959; im = o.nought })
+      (record { re = element_at o x (2 * k - 1); im = element_at o x (2 * k) }))
 
   -- Sample n of the inverse transform. Its parts are swapped, so the even samples are imaginary parts.
-  unfoldable pub sampleOut : List A → ℕ → A
-  sampleOut z n = cond (eqb (n % 2) 0) (elementAt o z (480 + n / 2)) (elementAt o z (n / 2))
+  unfoldable pub sample_out : List A → ℕ → A
+  sample_out z n = cond (eqb (n % 2) 0) (element_at o z (480 + n / 2)) (element_at o z (n / 2))
 
   module _ (c : ℕ → A) where
     -- x turned back by t/960 of a turn.
-    abbrev pub turnedBack : ℕ → Complex A → Complex A
-    turnedBack t x = record { re = x.re ⊗ c t ⊖ x.im ⊗ c (t + 240); im = x.re ⊗ c (t + 240) ⊕ x.im ⊗ c t }
+    abbrev pub turned_back : ℕ → Complex A → Complex A
+    turned_back t x = record { re = x.re ⊗ c t ⊖ x.im ⊗ c (t + 240); im = x.re ⊗ c (t + 240) ⊕ x.im ⊗ c t }
 
     -- Bin k of the transform of three numbers.
-    abbrev pub ofThree : Complex A → Complex A → Complex A → ℕ → Complex A
-    ofThree a b d zero = a +ᶜ (b +ᶜ d)
-    ofThree a b d (suc zero) = a +ᶜ c 320 · (b +ᶜ d) +ⁱ c 560 · (b -ᶜ d)
-    ofThree a b d (suc (suc k)) = a +ᶜ c 320 · (b +ᶜ d) -ⁱ c 560 · (b -ᶜ d)
+    abbrev pub of_three : Complex A → Complex A → Complex A → ℕ → Complex A
+    of_three a b d zero = a +ᶜ (b +ᶜ d)
+    of_three a b d (suc zero) = a +ᶜ c 320 · (b +ᶜ d) +ⁱ c 560 · (b -ᶜ d)
+    of_three a b d (suc (suc k)) = a +ᶜ c 320 · (b +ᶜ d) -ⁱ c 560 · (b -ᶜ d)
 
     -- Bin k of the transform of five numbers.
-    abbrev pub ofFive : Complex A → Complex A → Complex A → Complex A → Complex A → ℕ → Complex A
-    ofFive a b d e f zero = a +ᶜ (b +ᶜ f +ᶜ (d +ᶜ e))
-    ofFive a b d e f (suc zero) = a +ᶜ (c 192 · (b +ᶜ f) +ᶜ c 384 · (d +ᶜ e)) +ⁱ (c 432 · (b -ᶜ f) +ᶜ c 624 · (d -ᶜ e))
-    ofFive a b d e f (suc (suc zero)) =
+    abbrev pub of_five : Complex A → Complex A → Complex A → Complex A → Complex A → ℕ → Complex A
+    of_five a b d e f zero = a +ᶜ (b +ᶜ f +ᶜ (d +ᶜ e))
+    of_five a b d e f (suc zero) = a +ᶜ (c 192 · (b +ᶜ f) +ᶜ c 384 · (d +ᶜ e)) +ⁱ (c 432 · (b -ᶜ f) +ᶜ c 624 · (d -ᶜ e))
+    of_five a b d e f (suc (suc zero)) =
         a +ᶜ (c 384 · (b +ᶜ f) +ᶜ c 192 · (d +ᶜ e)) +ⁱ (c 624 · (b -ᶜ f) -ᶜ c 432 · (d -ᶜ e))
-    ofFive a b d e f (suc (suc (suc zero))) =
+    of_five a b d e f (suc (suc (suc zero))) =
         a +ᶜ (c 384 · (b +ᶜ f) +ᶜ c 192 · (d +ᶜ e)) -ⁱ (c 624 · (b -ᶜ f) -ᶜ c 432 · (d -ᶜ e))
-    ofFive a b d e f (suc (suc (suc (suc k)))) =
+    of_five a b d e f (suc (suc (suc (suc k)))) =
         a +ᶜ (c 192 · (b +ᶜ f) +ᶜ c 384 · (d +ᶜ e)) -ⁱ (c 432 · (b -ᶜ f) +ᶜ c 624 · (d -ᶜ e))
 
     -- ---- stages: bin q of lane i
     -- The first stage, in which nothing is turned.
     unfoldable pub row5 : List A → ℕ → ℕ → Complex A
     row5 xs i =
-        ofFive (complexAt xs i) (complexAt xs (i + 96)) (complexAt xs (i + 192)) (complexAt xs (i + 288))
-        (complexAt xs (i + 384))
+        of_five (complex_at xs i) (complex_at xs (i + 96)) (complex_at xs (i + 192)) (complex_at xs (i + 288))
+        (complex_at xs (i + 384))
 
     -- Bin q of lane i in a stage of threes.
     unfoldable pub row3 : ℕ → List A → ℕ → ℕ → Complex A
     row3 m xs i =
-        ofThree (complexAt xs (first 3 m i)) (turnedBack (angle m i) (complexAt xs (first 3 m i + m)))
-        (turnedBack (2 * angle m i) (complexAt xs (first 3 m i + 2 * m)))
+        of_three (complex_at xs (first 3 m i)) (turned_back (angle m i) (complex_at xs (first 3 m i + m)))
+        (turned_back (2 * angle m i) (complex_at xs (first 3 m i + 2 * m)))
 
     -- Bin q of lane i in a stage of fours.
     unfoldable pub row4 : ℕ → List A → ℕ → ℕ → Complex A
     row4 m xs i =
-        of_four (complexAt xs (first 4 m i)) (turnedBack (angle m i) (complexAt xs (first 4 m i + m)))
-        (turnedBack (2 * angle m i) (complexAt xs (first 4 m i + 2 * m)))
-        (turnedBack (3 * angle m i) (complexAt xs (first 4 m i + 3 * m)))
+        of_four (complex_at xs (first 4 m i)) (turned_back (angle m i) (complex_at xs (first 4 m i + m)))
+        (turned_back (2 * angle m i) (complex_at xs (first 4 m i + 2 * m)))
+        (turned_back (3 * angle m i) (complex_at xs (first 4 m i + 3 * m)))
 
     -- Bin q of lane i in a stage of twos.
     unfoldable pub row2 : ℕ → List A → ℕ → ℕ → Complex A
-    row2 m xs i = ofTwo (complexAt xs (first 2 m i)) (turnedBack (angle m i) (complexAt xs (first 2 m i + m)))
+    row2 m xs i = of_two (complex_at xs (first 2 m i)) (turned_back (angle m i) (complex_at xs (first 2 m i + m)))
 
     -- The five stages: 480 = 5 * 3 * 4 * 2 * 4.
     unfoldable pub transformed : List A → List A
@@ -155,21 +155,21 @@ module _ {A : Type 0} (o : Ops A) where
 
     -- Bin k of all samples.
     abbrev pub split : ℕ → Complex A → Complex A → Complex A
-    split k a b = even a b +ᶜ turnedBack k (odd a b)
+    split k a b = even a b +ᶜ turned_back k (odd a b)
 
     -- Bin k of a spectrum.
-    unfoldable pub binOut : List A → ℕ → Complex A
-    binOut z k = split k (complexAt z (k % 480)) (complexAt z ((480 - k) % 480))
+    unfoldable pub bin_out : List A → ℕ → Complex A
+    bin_out z k = split k (complex_at z (k % 480)) (complex_at z ((480 - k) % 480))
 
     -- Number j of a spectrum.
-    unfoldable pub numberOut : List A → ℕ → A
-    numberOut z j =
-        cond (eqb j 0) (elementAt o z 0 ⊕ elementAt o z 480)
-        (cond (eqb (j % 2) 1) (binOut z ((j + 1) / 2)).re (binOut z (j / 2)).im)
+    unfoldable pub number_out : List A → ℕ → A
+    number_out z j =
+        cond (eqb j 0) (element_at o z 0 ⊕ element_at o z 480)
+        (cond (eqb (j % 2) 1) (bin_out z ((j + 1) / 2)).re (bin_out z (j / 2)).im)
 
     -- The forward transform.
-    unfoldable pub forwardOver : List A → List A
-    forwardOver x = tab 961 (numberOut (transformed (asComplex x)))
+    unfoldable pub forward_over : List A → List A
+    forward_over x = tab 961 (number_out (transformed (as_complex x)))
 
     -- ---- inverse
     -- Bin k of the pairs, from bins a = k and b = 480 - k of the samples. Its parts are swapped, so that the stages of
@@ -181,13 +181,13 @@ module _ {A : Type 0} (o : Ops A) where
     }
 
     -- The same from a spectrum.
-    abbrev pub mergedAt : List A → ℕ → Complex A
-    mergedAt x k = merged k (bin_in x k) (bin_in x (480 - k))
+    abbrev pub merged_at : List A → ℕ → Complex A
+    merged_at x k = merged k (bin_in x k) (bin_in x (480 - k))
 
     -- All of them.
-    unfoldable pub mergedOf : List A → List A
-    mergedOf x = complexes (mergedAt x)
+    unfoldable pub merged_of : List A → List A
+    merged_of x = complexes (merged_at x)
 
     -- The inverse transform.
-    unfoldable pub inverseOver : List A → List A
-    inverseOver x = tab 960 (sampleOut (transformed (mergedOf x)))
+    unfoldable pub inverse_over : List A → List A
+    inverse_over x = tab 960 (sample_out (transformed (merged_of x)))

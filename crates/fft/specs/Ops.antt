@@ -25,5 +25,5 @@ pub record Complex (A : Type 0) : Type 0 where
   pub im : A
 
 -- Number i of a list.
-abbrev pub elementAt : {A : Type 0} → Ops A → List A → ℕ → A
-elementAt o xs i = get_or xs i o.beyond
+abbrev pub element_at : {A : Type 0} → Ops A → List A → ℕ → A
+element_at o xs i = get_or xs i o.beyond

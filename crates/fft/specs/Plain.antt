@@ -5,7 +5,7 @@ use Rattle.rules.specs.Loop.{loop, range}
 use Rattle.rules.specs.Tab.{tab}
 use Rattle.rules.specs.Spectrum.{bin_of}
 use Rattle.transforms.specs.Transform.{part_of}
-use Rattle.fft.specs.Ops.{Ops, elementAt}
+use Rattle.fft.specs.Ops.{Ops, element_at}
 
 module _ {A : Type 0} (o : Ops A) (c : ℕ → A) where
   infixl 65 ◌⊕◌
@@ -17,27 +17,27 @@ module _ {A : Type 0} (o : Ops A) (c : ℕ → A) where
   x ⊗ y = o.times x y
 
   -- The cosine (r = 0) or minus the sine (r = 240) of k * n / 960 of a turn.
-  abbrev cosineAt : ℕ → ℕ → ℕ → A
-  cosineAt k n r = c ((k * n + r) % 960)
+  abbrev cosine_at : ℕ → ℕ → ℕ → A
+  cosine_at k n r = c ((k * n + r) % 960)
 
   -- Bin k: its real part for r = 0, its imaginary part for r = 240.
-  abbrev pub plainBin : List A → ℕ → ℕ → A
-  plainBin x k r = loop 960 (λ n sum. sum ⊕ elementAt o x n ⊗ cosineAt k n r) o.nought
+  abbrev pub plain_bin : List A → ℕ → ℕ → A
+  plain_bin x k r = loop 960 (λ n sum. sum ⊕ element_at o x n ⊗ cosine_at k n r) o.nought
 
   -- The forward transform.
-  unfoldable pub plainForward : List A → List A
-  plainForward x = tab 961 (λ j. plainBin x (bin_of j) (part_of j))
+  unfoldable pub plain_forward : List A → List A
+  plain_forward x = tab 961 (λ j. plain_bin x (bin_of j) (part_of j))
 
   -- Adds bin k, twice, to sample n.
-  abbrev pub plainStep : List A → ℕ → ℕ → A → A
-  plainStep x n k sum =
-      sum ⊕ o.two ⊗ elementAt o x (2 * k - 1) ⊗ cosineAt n k 0 ⊕ o.two ⊗ elementAt o x (2 * k) ⊗ cosineAt n k 240
+  abbrev pub plain_step : List A → ℕ → ℕ → A → A
+  plain_step x n k sum =
+      sum ⊕ o.two ⊗ element_at o x (2 * k - 1) ⊗ cosine_at n k 0 ⊕ o.two ⊗ element_at o x (2 * k) ⊗ cosine_at n k 240
 
   -- Sample n.
-  abbrev pub plainSample : List A → ℕ → A
-  plainSample x n =
-      range 1 480 (plainStep x n) (o.nought ⊕ elementAt o x 0) ⊕ elementAt o x (2 * 480 - 1) ⊗ cosineAt n 480 0
+  abbrev pub plain_sample : List A → ℕ → A
+  plain_sample x n =
+      range 1 480 (plain_step x n) (o.nought ⊕ element_at o x 0) ⊕ element_at o x (2 * 480 - 1) ⊗ cosine_at n 480 0
 
   -- The inverse transform.
-  unfoldable pub plainInverse : List A → List A
-  plainInverse x = tab 960 (plainSample x)
+  unfoldable pub plain_inverse : List A → List A
+  plain_inverse x = tab 960 (plain_sample x)

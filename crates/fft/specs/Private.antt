@@ -3,7 +3,7 @@
 use Rattle.rules.specs.Common.{ℕ, ◌+◌, ◌*◌, ◌<◌, List, ◌≡◌, length, set, Float}
 use Rattle.rules.specs.F32.{at}
 use Rattle.fft.specs.Ops.{Complex}
-use Rattle.fft.specs.Fast.{complexAt}
+use Rattle.fft.specs.Fast.{complex_at}
 use Rattle.fft.specs.Single.{single}
 use Rattle.fft.specs.declared.complex.Cx.{Cx}
 use Rattle.fft.specs.declared.bins.Twos.{Twos}
@@ -16,8 +16,8 @@ abbrev pub cx : Complex Float → Cx
 cx z = record { re = z.re; im = z.im }
 
 -- The code's complex number as the definition has it.
-abbrev pub complexOf : Cx → Complex Float
-complexOf z = record { re = z.re; im = z.im }
+abbrev pub complex_of : Cx → Complex Float
+complex_of z = record { re = z.re; im = z.im }
 
 -- Two bins.
 abbrev pub twos : (ℕ → Complex Float) → Twos
@@ -36,43 +36,43 @@ abbrev pub fives : (ℕ → Complex Float) → Fives
 fives f = record { a = cx (f 0); b = cx (f 1); d = cx (f 2); e = cx (f 3); f = cx (f 4) }
 
 -- Stores four neighbouring numbers.
-unfoldable pub putFour : List Float → ℕ → Float → Float → Float → Float → List Float
-putFour xs at a b c d = set (set (set (set xs at a) (at + 1) b) (at + 2) c) (at + 3) d
+unfoldable pub put_four : List Float → ℕ → Float → Float → Float → Float → List Float
+put_four xs at a b c d = set (set (set (set xs at a) (at + 1) b) (at + 2) c) (at + 3) d
 
 -- Stores four neighbouring complex numbers.
-unfoldable pub putComplex : List Float → ℕ → Cx → Cx → Cx → Cx → List Float
-putComplex xs at w x y v =
-    putFour (putFour xs at w.re x.re y.re v.re) (480 + at) w.im x.im y.im v.im
+unfoldable pub put_complex : List Float → ℕ → Cx → Cx → Cx → Cx → List Float
+put_complex xs at w x y v =
+    put_four (put_four xs at w.re x.re y.re v.re) (480 + at) w.im x.im y.im v.im
 
 -- Of r bins of n lanes, those of the first i lanes are in their places.
 pub record Laid (r n : ℕ) (g : ℕ → ℕ → Complex Float) (i : ℕ) (held : List Float) : Type 0 where
   pub long : length held ≡ 960
-  pub behind : (a b : ℕ) → a < r → b < i → complexAt single held (n * a + b) ≡ g b a
+  pub behind : (a b : ℕ) → a < r → b < i → complex_at single held (n * a + b) ≡ g b a
 
 -- Stores the bins of four lanes from i on, in a stage of twos.
-unfoldable pub putTwos : List Float → ℕ → Twos → Twos → Twos → Twos → List Float
-putTwos xs i w x y v = putComplex (putComplex xs i w.a x.a y.a v.a) (240 + i) w.b x.b y.b v.b
+unfoldable pub put_twos : List Float → ℕ → Twos → Twos → Twos → Twos → List Float
+put_twos xs i w x y v = put_complex (put_complex xs i w.a x.a y.a v.a) (240 + i) w.b x.b y.b v.b
 
 -- The same in a stage of threes.
-unfoldable pub putThrees : List Float → ℕ → Threes → Threes → Threes → Threes → List Float
-putThrees xs i w x y v =
-    putComplex (putComplex (putComplex xs i w.a x.a y.a v.a) (160 + i) w.b x.b y.b v.b)
+unfoldable pub put_threes : List Float → ℕ → Threes → Threes → Threes → Threes → List Float
+put_threes xs i w x y v =
+    put_complex (put_complex (put_complex xs i w.a x.a y.a v.a) (160 + i) w.b x.b y.b v.b)
     (320 + i) w.d x.d y.d v.d
 
 -- The same in a stage of fours.
-unfoldable pub putFours : List Float → ℕ → Fours → Fours → Fours → Fours → List Float
-putFours xs i w x y v =
-    putComplex
-    (putComplex (putComplex (putComplex xs i w.a x.a y.a v.a) (120 + i) w.b x.b y.b v.b)
+unfoldable pub put_fours : List Float → ℕ → Fours → Fours → Fours → Fours → List Float
+put_fours xs i w x y v =
+    put_complex
+    (put_complex (put_complex (put_complex xs i w.a x.a y.a v.a) (120 + i) w.b x.b y.b v.b)
     (240 + i) w.d x.d y.d v.d)
     (360 + i) w.e x.e y.e v.e
 
 -- The same in a stage of fives.
-unfoldable pub putFives : List Float → ℕ → Fives → Fives → Fives → Fives → List Float
-putFives xs i w x y v =
-    putComplex
-    (putComplex
-    (putComplex (putComplex (putComplex xs i w.a x.a y.a v.a) (96 + i) w.b x.b y.b v.b)
+unfoldable pub put_fives : List Float → ℕ → Fives → Fives → Fives → Fives → List Float
+put_fives xs i w x y v =
+    put_complex
+    (put_complex
+    (put_complex (put_complex (put_complex xs i w.a x.a y.a v.a) (96 + i) w.b x.b y.b v.b)
     (192 + i) w.d x.d y.d v.d)
     (288 + i) w.e x.e y.e v.e) (384 + i) w.f x.f y.f v.f
 

@@ -3,7 +3,7 @@ use Rattle.rules.specs.Common.{ℕ, List, Float, nan}
 use Rattle.rules.specs.F32.{◌⊕◌, ◌⊖◌, ◌⊗◌, at, f32}
 use Rattle.transforms.specs.Cosine.{cosine}
 use Rattle.fft.specs.Ops.{Ops}
-use Rattle.fft.specs.Fast.{forwardOver, inverseOver}
+use Rattle.fft.specs.Fast.{forward_over, inverse_over}
 
 -- The operations of f32.
 abbrev pub single : Ops Float
@@ -14,9 +14,9 @@ abbrev pub of : List Float → ℕ → Float
 of table m = at table m
 
 -- The fast forward transform.
-unfoldable pub fastForward : List Float → List Float
-fastForward x = forwardOver single (of cosine) x
+unfoldable pub fast_forward : List Float → List Float
+fast_forward x = forward_over single (of cosine) x
 
 -- The fast inverse transform.
-unfoldable pub fastInverse : List Float → List Float
-fastInverse x = inverseOver single (of cosine) x
+unfoldable pub fast_inverse : List Float → List Float
+fast_inverse x = inverse_over single (of cosine) x

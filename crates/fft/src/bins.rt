@@ -1,8 +1,8 @@
 // The transforms of two, three, four and five numbers.
 ghost use Rattle.std.specs.Prelude.{◌≡◌};
-ghost use Rattle.fft.specs.Fast.{ofTwo, ofThree, of_four, ofFive};
+ghost use Rattle.fft.specs.Fast.{of_two, of_three, of_four, of_five};
 ghost use Rattle.fft.specs.Single.{single, of};
-ghost use Rattle.fft.specs.Private.{complexOf, twos, threes, fours, fives};
+ghost use Rattle.fft.specs.Private.{complex_of, twos, threes, fours, fives};
 
 use crate::complex::Cx;
 
@@ -38,7 +38,7 @@ pub(crate) struct Fives {
 
 // The transform of two numbers.
 pub(crate) fn two(a: Cx, b: Cx) -> Twos
-    ensures { result ≡ twos (ofTwo single (complexOf a) (complexOf b)) }
+    ensures { result ≡ twos (of_two single (complex_of a) (complex_of b)) }
 {
     Twos {
         a: Cx {
@@ -54,7 +54,7 @@ pub(crate) fn two(a: Cx, b: Cx) -> Twos
 
 // The transform of three numbers.
 pub(crate) fn three(c: &[f32; 960], a: Cx, b: Cx, d: Cx) -> Threes
-    ensures { result ≡ threes (ofThree single (of c.now) (complexOf a) (complexOf b) (complexOf d)) }
+    ensures { result ≡ threes (of_three single (of c.now) (complex_of a) (complex_of b) (complex_of d)) }
 {
     let s = b.re + d.re;
     let t = b.im + d.im;
@@ -82,7 +82,7 @@ pub(crate) fn three(c: &[f32; 960], a: Cx, b: Cx, d: Cx) -> Threes
 
 // The transform of four numbers.
 pub(crate) fn four(a: Cx, b: Cx, d: Cx, e: Cx) -> Fours
-    ensures { result ≡ fours (of_four single (complexOf a) (complexOf b) (complexOf d) (complexOf e)) }
+    ensures { result ≡ fours (of_four single (complex_of a) (complex_of b) (complex_of d) (complex_of e)) }
 {
     let pr = a.re + d.re;
     let pi = a.im + d.im;
@@ -115,7 +115,7 @@ pub(crate) fn four(a: Cx, b: Cx, d: Cx, e: Cx) -> Fours
 // The transform of five numbers.
 pub(crate) fn five(c: &[f32; 960], a: Cx, b: Cx, d: Cx, e: Cx, f: Cx) -> Fives
     ensures { result ≡ fives
-        (ofFive single (of c.now) (complexOf a) (complexOf b) (complexOf d) (complexOf e) (complexOf f)) }
+        (of_five single (of c.now) (complex_of a) (complex_of b) (complex_of d) (complex_of e) (complex_of f)) }
 {
     let pr = b.re + f.re;
     let pi = b.im + f.im;

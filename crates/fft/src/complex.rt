@@ -1,8 +1,8 @@
 // A complex number, and lists of 480 of them: 480 real parts, and then 480 imaginary parts.
 ghost use Rattle.std.specs.Prelude.{◌≡◌, ◌+◌, ◌≤◌, ◌<◌, length};
-ghost use Rattle.fft.specs.Fast.{complexAt, turnedBack};
+ghost use Rattle.fft.specs.Fast.{complex_at, turned_back};
 ghost use Rattle.fft.specs.Single.{single, of};
-ghost use Rattle.fft.specs.Private.{cx, putFour, putComplex};
+ghost use Rattle.fft.specs.Private.{cx, put_four, put_complex};
 
 #[derive(Drop)]
 pub(crate) struct Cx {
@@ -13,7 +13,7 @@ pub(crate) struct Cx {
 // Entry i of a list.
 pub(crate) fn entry(z: &[f32; 960], i: usize) -> Cx
     requires { i < 480 }
-    ensures { result ≡ cx (complexAt single z.now i) }
+    ensures { result ≡ cx (complex_at single z.now i) }
 {
     Cx {
         re: z[i],
@@ -24,7 +24,7 @@ pub(crate) fn entry(z: &[f32; 960], i: usize) -> Cx
 // Entry i, turned back by t/960 of a turn.
 pub(crate) fn turned(c: &[f32; 960], z: &[f32; 960], i: usize, t: usize) -> Cx
     requires { (i < 480) × (t < 720) }
-    ensures { result ≡ cx (turnedBack single (of c.now) t (complexAt single z.now i)) }
+    ensures { result ≡ cx (turned_back single (of c.now) t (complex_at single z.now i)) }
 {
     let p = c[t];
     let q = c[t + 240];
@@ -39,7 +39,7 @@ pub(crate) fn turned(c: &[f32; 960], z: &[f32; 960], i: usize, t: usize) -> Cx
 // Stores four neighbouring numbers.
 pub(crate) fn put_four(out: &mut [f32], at: usize, a: f32, b: f32, c: f32, d: f32)
     requires { at + 4 ≤ length out.old }
-    ensures { out.new ≡ putFour out.old at a b c d }
+    ensures { out.new ≡ put_four out.old at a b c d }
 {
     out[at] = a;
     out[at + 1] = b;
@@ -50,7 +50,7 @@ pub(crate) fn put_four(out: &mut [f32], at: usize, a: f32, b: f32, c: f32, d: f3
 // Stores four neighbouring complex numbers.
 pub(crate) fn put(out: &mut [f32], at: usize, w: Cx, x: Cx, y: Cx, v: Cx)
     requires { (length out.old ≡ 960) × (at + 4 ≤ 480) }
-    ensures { out.new ≡ putComplex out.old at w x y v }
+    ensures { out.new ≡ put_complex out.old at w x y v }
 {
     put_four(out, at, w.re, x.re, y.re, v.re);
     put_four(out, 480 + at, w.im, x.im, y.im, v.im);

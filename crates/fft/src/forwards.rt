@@ -1,9 +1,9 @@
 // What comes before and after the complex transform in the forward transform: samples in, bins out.
 ghost use Rattle.std.specs.Prelude.{◌≡◌, ◌+◌, ◌*◌, ◌-◌, ◌≤◌, ◌<◌, length};
 ghost use Rattle.rules.specs.Tab.{tab};
-ghost use Rattle.fft.specs.Fast.{pair, asComplex, split, binOut, numberOut};
+ghost use Rattle.fft.specs.Fast.{pair, as_complex, split, bin_out, number_out};
 ghost use Rattle.fft.specs.Single.{single, of};
-ghost use Rattle.fft.specs.Private.{cx, complexOf, Laid, Filled};
+ghost use Rattle.fft.specs.Private.{cx, complex_of, Laid, Filled};
 
 use crate::complex::{Cx, entry, put, put_four};
 
@@ -34,7 +34,7 @@ fn pack_block(out: &mut [f32], x: &[f32], i: usize)
 // All samples as complex numbers.
 pub(crate) fn pack(out: &mut [f32], x: &[f32])
     requires { (length out.old ≡ 960) × (length x.now ≡ 960) }
-    ensures { out.new ≡ asComplex single x.now }
+    ensures { out.new ≡ as_complex single x.now }
 {
     for b in 0..120 {
         pack_block(out, x, 4 * b);
@@ -44,7 +44,7 @@ pub(crate) fn pack(out: &mut [f32], x: &[f32])
 // Bin k of the samples from bins k and 480 - k of the pairs.
 fn split(c: &[f32; 960], k: usize, a: Cx, b: Cx) -> Cx
     requires { k ≤ 480 }
-    ensures { result ≡ cx (split single (of c.now) k (complexOf a) (complexOf b)) }
+    ensures { result ≡ cx (split single (of c.now) k (complex_of a) (complex_of b)) }
 {
     let h = c[160];
     let er = h * (a.re + b.re);
@@ -62,7 +62,7 @@ fn split(c: &[f32; 960], k: usize, a: Cx, b: Cx) -> Cx
 // Bin k, for k from 1 to 479.
 fn bin(c: &[f32; 960], z: &[f32; 960], k: usize) -> Cx
     requires { (0 < k) × (k < 480) }
-    ensures { result ≡ cx (binOut single (of c.now) z.now k) }
+    ensures { result ≡ cx (bin_out single (of c.now) z.now k) }
 {
     let a = entry(z, k);
     let b = entry(z, 480 - k);
@@ -72,7 +72,7 @@ fn bin(c: &[f32; 960], z: &[f32; 960], k: usize) -> Cx
 // Bin k, for any k up to 480. For bin 480 the rule of the others would read after the end.
 fn any_bin(c: &[f32; 960], z: &[f32; 960], k: usize) -> Cx
     requires { k ≤ 480 }
-    ensures { result ≡ cx (binOut single (of c.now) z.now k) }
+    ensures { result ≡ cx (bin_out single (of c.now) z.now k) }
 {
     let a = entry(z, k % 480);
     let b = entry(z, (480 - k) % 480);
@@ -81,9 +81,9 @@ fn any_bin(c: &[f32; 960], z: &[f32; 960], k: usize) -> Cx
 
 // Stores four bins.
 fn four_bins(out: &mut [f32], c: &[f32; 960], z: &[f32; 960], k: usize)
-    requires filled { Filled 961 (numberOut single (of c.now) z.now) (2 * k - 1) out.old }
+    requires filled { Filled 961 (number_out single (of c.now) z.now) (2 * k - 1) out.old }
     requires k_nonzero { (0 < k) × (k + 4 ≤ 480) }
-    ensures { Filled 961 (numberOut single (of c.now) z.now) (2 * k + 7)
+    ensures { Filled 961 (number_out single (of c.now) z.now) (2 * k + 7)
         out.new }
 {
     let w = bin(c, z, k);
@@ -96,8 +96,8 @@ fn four_bins(out: &mut [f32], c: &[f32; 960], z: &[f32; 960], k: usize)
 
 // Stores bins 477 to 480.
 fn last_bins(out: &mut [f32], c: &[f32; 960], z: &[f32; 960])
-    requires { Filled 961 (numberOut single (of c.now) z.now) 953 out.old }
-    ensures { Filled 961 (numberOut single (of c.now) z.now) 961 out.new }
+    requires { Filled 961 (number_out single (of c.now) z.now) 953 out.old }
+    ensures { Filled 961 (number_out single (of c.now) z.now) 961 out.new }
 {
     let w = any_bin(c, z, 477);
     let x = any_bin(c, z, 478);
@@ -109,8 +109,8 @@ fn last_bins(out: &mut [f32], c: &[f32; 960], z: &[f32; 960])
 
 // Stores bins 1 to 476.
 fn middle_bins(out: &mut [f32], c: &[f32; 960], z: &[f32; 960])
-    requires { Filled 961 (numberOut single (of c.now) z.now) 1 out.old }
-    ensures { Filled 961 (numberOut single (of c.now) z.now) 953 out.new }
+    requires { Filled 961 (number_out single (of c.now) z.now) 1 out.old }
+    ensures { Filled 961 (number_out single (of c.now) z.now) 953 out.new }
 {
     for b in 0..119 {
         four_bins(out, c, z, 4 * b + 1);
@@ -120,7 +120,7 @@ fn middle_bins(out: &mut [f32], c: &[f32; 960], z: &[f32; 960])
 // Stores bin 0.
 fn bin_0(out: &mut [f32], c: &[f32; 960], z: &[f32; 960])
     requires { length out.old ≡ 961 }
-    ensures { Filled 961 (numberOut single (of c.now) z.now) 1 out.new }
+    ensures { Filled 961 (number_out single (of c.now) z.now) 1 out.new }
 {
     out[0] = z[0] + z[480];
 }
@@ -128,7 +128,7 @@ fn bin_0(out: &mut [f32], c: &[f32; 960], z: &[f32; 960])
 // Stores all bins.
 pub(crate) fn spectrum(out: &mut [f32], c: &[f32; 960], z: &[f32; 960])
     requires { length out.old ≡ 961 }
-    ensures { out.new ≡ tab 961 (numberOut single (of c.now) z.now) }
+    ensures { out.new ≡ tab 961 (number_out single (of c.now) z.now) }
 {
     bin_0(out, c, z);
     middle_bins(out, c, z);

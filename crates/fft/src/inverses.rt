@@ -1,9 +1,9 @@
 // What comes before and after the complex transform in the inverse transform: bins in, samples out.
 ghost use Rattle.std.specs.Prelude.{◌≡◌, ◌+◌, ◌*◌, ◌-◌, ◌≤◌, ◌<◌, length};
 ghost use Rattle.rules.specs.Tab.{tab};
-ghost use Rattle.fft.specs.Fast.{bin_in, merged, mergedAt, mergedOf, sampleOut};
+ghost use Rattle.fft.specs.Fast.{bin_in, merged, merged_at, merged_of, sample_out};
 ghost use Rattle.fft.specs.Single.{single, of};
-ghost use Rattle.fft.specs.Private.{cx, complexOf, Laid};
+ghost use Rattle.fft.specs.Private.{cx, complex_of, Laid};
 
 use crate::complex::{Cx, put};
 
@@ -38,7 +38,7 @@ fn any_bin_in(x: &[f32], k: usize) -> Cx
 // Bin k of the pairs, from bins k and 480 - k of the samples. Its parts are swapped.
 fn merge(c: &[f32; 960], k: usize, a: Cx, b: Cx) -> Cx
     requires { k ≤ 480 }
-    ensures { result ≡ cx (merged single (of c.now) k (complexOf a) (complexOf b)) }
+    ensures { result ≡ cx (merged single (of c.now) k (complex_of a) (complex_of b)) }
 {
     let p = c[k];
     let q = c[k + 240];
@@ -53,7 +53,7 @@ fn merge(c: &[f32; 960], k: usize, a: Cx, b: Cx) -> Cx
 // The same from a spectrum, for k from 1 to 479.
 fn merged(c: &[f32; 960], x: &[f32], k: usize) -> Cx
     requires { (length x.now ≡ 961) × (0 < k) × (k < 480) }
-    ensures { result ≡ cx (mergedAt single (of c.now) x.now k) }
+    ensures { result ≡ cx (merged_at single (of c.now) x.now k) }
 {
     let a = bin_in(x, k);
     let b = bin_in(x, 480 - k);
@@ -63,7 +63,7 @@ fn merged(c: &[f32; 960], x: &[f32], k: usize) -> Cx
 // The same for any k.
 fn any_merged(c: &[f32; 960], x: &[f32], k: usize) -> Cx
     requires { (length x.now ≡ 961) × (k ≤ 480) }
-    ensures { result ≡ cx (mergedAt single (of c.now) x.now k) }
+    ensures { result ≡ cx (merged_at single (of c.now) x.now k) }
 {
     let a = any_bin_in(x, k);
     let b = any_bin_in(x, 480 - k);
@@ -72,9 +72,9 @@ fn any_merged(c: &[f32; 960], x: &[f32], k: usize) -> Cx
 
 // Stores four of them.
 fn merge_block(out: &mut [f32], c: &[f32; 960], x: &[f32], i: usize)
-    requires laid { Laid 1 480 (λ b a. mergedAt single (of c.now) x.now b) i out.old }
+    requires laid { Laid 1 480 (λ b a. merged_at single (of c.now) x.now b) i out.old }
     requires x_len { (length x.now ≡ 961) × (0 < i) × (i + 4 ≤ 480) }
-    ensures { Laid 1 480 (λ b a. mergedAt single (of c.now) x.now b) (i + 4)
+    ensures { Laid 1 480 (λ b a. merged_at single (of c.now) x.now b) (i + 4)
         out.new }
 {
     let w = merged(c, x, i);
@@ -87,7 +87,7 @@ fn merge_block(out: &mut [f32], c: &[f32; 960], x: &[f32], i: usize)
 // Stores the first four.
 fn first_block(out: &mut [f32], c: &[f32; 960], x: &[f32])
     requires { (length out.old ≡ 960) × (length x.now ≡ 961) }
-    ensures { Laid 1 480 (λ b a. mergedAt single (of c.now) x.now b) 4
+    ensures { Laid 1 480 (λ b a. merged_at single (of c.now) x.now b) 4
         out.new }
 {
     let w = any_merged(c, x, 0);
@@ -99,9 +99,9 @@ fn first_block(out: &mut [f32], c: &[f32; 960], x: &[f32])
 
 // Stores the others.
 fn other_blocks(out: &mut [f32], c: &[f32; 960], x: &[f32])
-    requires laid { Laid 1 480 (λ b a. mergedAt single (of c.now) x.now b) 4 out.old }
+    requires laid { Laid 1 480 (λ b a. merged_at single (of c.now) x.now b) 4 out.old }
     requires x_len { length x.now ≡ 961 }
-    ensures { out.new ≡ mergedOf single (of c.now) x.now }
+    ensures { out.new ≡ merged_of single (of c.now) x.now }
 {
     for b in 0..119 {
         merge_block(out, c, x, 4 * b + 4);
@@ -111,7 +111,7 @@ fn other_blocks(out: &mut [f32], c: &[f32; 960], x: &[f32])
 // Stores all of them.
 pub(crate) fn merge_all(out: &mut [f32], c: &[f32; 960], x: &[f32])
     requires { (length out.old ≡ 960) × (length x.now ≡ 961) }
-    ensures { out.new ≡ mergedOf single (of c.now) x.now }
+    ensures { out.new ≡ merged_of single (of c.now) x.now }
 {
     first_block(out, c, x);
     other_blocks(out, c, x);
@@ -120,7 +120,7 @@ pub(crate) fn merge_all(out: &mut [f32], c: &[f32; 960], x: &[f32])
 // The samples. The parts are swapped, so even samples are imaginary parts.
 pub(crate) fn samples(out: &mut [f32], z: &[f32; 960])
     requires { length out.old ≡ 960 }
-    ensures { out.new ≡ tab 960 (sampleOut single z.now) }
+    ensures { out.new ≡ tab 960 (sample_out single z.now) }
 {
     for i in 0..480 {
         out[2 * i] = z[480 + i];

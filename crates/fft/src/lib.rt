@@ -4,7 +4,7 @@
 ghost use Rattle.std.specs.Prelude.{◌≡◌, length};
 ghost use Rattle.rules.specs.Leaf.{Leaf, ◌leaving◌};
 ghost use Rattle.transforms.specs.Transform.{ForwardFits, InverseFits};
-ghost use Rattle.fft.specs.Single.{fastForward, fastInverse};
+ghost use Rattle.fft.specs.Single.{fast_forward, fast_inverse};
 
 mod bins;
 mod complex;
@@ -16,7 +16,7 @@ mod stages;
 // `forward` for lengths that fit.
 fn forward_core(out: &mut [f32], x: &[f32])
     requires { ForwardFits (length out.old) (length x.now) }
-    ensures { out.new ≡ fastForward x.now }
+    ensures { out.new ≡ fast_forward x.now }
 {
     let cosine = transforms::cosine::all();
     let mut y = [0.0f32; 960];
@@ -28,10 +28,10 @@ fn forward_core(out: &mut [f32], x: &[f32])
 
 // The spectrum of 960 samples.
 pub fn forward(out: &mut [f32], x: &[f32]) -> u32
-    ensures { Leaf (ForwardFits (length out.old) (length x.entry.now))
-        (result leaving (λ x. x.now) out.exit)
-        (0 leaving fastForward x.entry.now)
-        (5 leaving (λ x. x.now) out.entry) }
+    ensures { Leaf (ForwardFits (length out.old) (length x.now))
+        (result leaving out.new)
+        (0 leaving fast_forward x.now)
+        (5 leaving out.old) }
 {
     if out.len() != 961 {
         return 5;
@@ -46,7 +46,7 @@ pub fn forward(out: &mut [f32], x: &[f32]) -> u32
 // `inverse` for lengths that fit.
 fn inverse_core(out: &mut [f32], x: &[f32])
     requires { InverseFits (length out.old) (length x.now) }
-    ensures { out.new ≡ fastInverse x.now }
+    ensures { out.new ≡ fast_inverse x.now }
 {
     let cosine = transforms::cosine::all();
     let mut y = [0.0f32; 960];
@@ -58,10 +58,10 @@ fn inverse_core(out: &mut [f32], x: &[f32])
 
 // The samples of a spectrum, times 960: bins 1 to 479 count twice, bin 0 and the real part of bin 480 once.
 pub fn inverse(out: &mut [f32], x: &[f32]) -> u32
-    ensures { Leaf (InverseFits (length out.old) (length x.entry.now))
-        (result leaving (λ x. x.now) out.exit)
-        (0 leaving fastInverse x.entry.now)
-        (5 leaving (λ x. x.now) out.entry) }
+    ensures { Leaf (InverseFits (length out.old) (length x.now))
+        (result leaving out.new)
+        (0 leaving fast_inverse x.now)
+        (5 leaving out.old) }
 {
     if out.len() != 960 {
         return 5;

@@ -3,7 +3,7 @@
 // does several fours, so that there are fewer than 16 turns. With more, the compiler would vectorise over four turns
 // instead, with gathers, and lose a quarter of the speed.
 ghost use Rattle.std.specs.Prelude.{◌≡◌, ◌+◌, ◌*◌, ◌/◌, ◌%◌, ◌≤◌, ◌<◌, length};
-ghost use Rattle.fft.specs.Fast.{complexAt, turnedBack, of_four, row2, row3, row4, row5, stage, transformed};
+ghost use Rattle.fft.specs.Fast.{complex_at, turned_back, of_four, row2, row3, row4, row5, stage, transformed};
 ghost use Rattle.fft.specs.Single.{single, of};
 ghost use Rattle.fft.specs.Private.{twos, threes, fours, fives, Laid};
 
@@ -89,10 +89,10 @@ fn stage3(out: &mut [f32], c: &[f32; 960], z: &[f32; 960])
 fn join4(c: &[f32; 960], z: &[f32; 960], p: usize, m: usize, t: usize) -> Fours
     requires { (p + 3 * m < 480) × (3 * t < 720) }
     ensures { result ≡ fours (of_four single
-        (complexAt single z.now p)
-        (turnedBack single (of c.now) t (complexAt single z.now (p + m)))
-        (turnedBack single (of c.now) (2 * t) (complexAt single z.now (p + 2 * m)))
-        (turnedBack single (of c.now) (3 * t) (complexAt single z.now (p + 3 * m)))) }
+        (complex_at single z.now p)
+        (turned_back single (of c.now) t (complex_at single z.now (p + m)))
+        (turned_back single (of c.now) (2 * t) (complex_at single z.now (p + 2 * m)))
+        (turned_back single (of c.now) (3 * t) (complex_at single z.now (p + 3 * m)))) }
 {
     let a = entry(z, p);
     let b = turned(c, z, p + m, t);

@@ -1,5 +1,5 @@
--- A kept lag, as a whole number: it is at most 768 (`lag-small`), and of a whole number up to there it is that number
--- (`lag-back`). Assumes nothing.
+-- A kept lag, as a whole number: it is at most 768 (`lag_small`), and of a whole number up to there it is that number
+-- (`lag_back`). Assumes nothing.
 use Rattle.rules.proofs.Common.{ℕ, zero, suc, ◌+◌, ◌*◌, ◌≤◌, ◌<◌, Bool, true, false, cond, true≢false, ◌≡◌, refl, sym}
 use Rattle.rules.proofs.Common.{ap, ◌∙◌, leb, T, pos, Float}
 use Rattle.rules.proofs.Common.{binary32, nan, inf, fin, up, down}
@@ -13,11 +13,11 @@ use lib.Ieee.Exact.{HasValue}
 use lib.Ieee.Fits.{down_pos}
 use lib.Ieee.Order.{le_of_values}
 use Rattle.rules.specs.Loop.{loop, range}
-use Rattle.finder.specs.Kept.{lagStep, wholeLag}
+use Rattle.finder.specs.Kept.{lag_step, whole_lag}
 use Rattle.finder.specs.Laws.{LagIsSmall, LagIsBack}
 
 -- after n turns it is at most n
-upto : (x : Float) (n : ℕ) → loop n (λ k. lagStep x (1 + k)) 0 ≤ n
+upto : (x : Float) (n : ℕ) → loop n (λ k. lag_step x (1 + k)) 0 ≤ n
 unfolding loop
 upto x zero = omega arith
 upto x (suc n) = either (le (of_int binary32 (pos (1 + n))) x) (omega arith) (upto x n)
@@ -26,9 +26,9 @@ upto x (suc n) = either (le (of_int binary32 (pos (1 + n))) x) (omega arith) (up
     either true g h = g
     either false g h = omega arith
 
-pub lag-small : LagIsSmall
-unfolding wholeLag range
-lag-small x = upto x 768
+pub lag_small : LagIsSmall
+unfolding whole_lag range
+lag_small x = upto x 768
 
 -- ---- of a small whole number it is that number
 
@@ -36,9 +36,9 @@ T_true : (t : Bool) → T t → t ≡ true
 T_true true h = refl
 T_true false h = absurd h
 
-whole-value : (n : ℕ) → n ≤ 768 → HasValue (of_int binary32 (pos n)) false n 1
+whole_value : (n : ℕ) → n ≤ 768 → HasValue (of_int binary32 (pos n)) false n 1
 unfolding of_int
-whole-value n h = round_whole binary32 false n (omega arith)
+whole_value n h = round_whole binary32 false n (omega arith)
 
 above : (x y : Float) (k l : ℕ) → HasValue x false k 1 → HasValue y false l 1 → l < k → le x y ≡ false
 unfolding le lt eq
@@ -66,25 +66,25 @@ module _ (lag : ℕ) (small : lag ≤ 768) where
   kept = of_int binary32 (pos lag)
 
   -- after n turns it is n, or the lag
-  counted : (n : ℕ) → n ≤ 768 → loop n (λ k. lagStep kept (1 + k)) 0 ≡ min n lag
+  counted : (n : ℕ) → n ≤ 768 → loop n (λ k. lag_step kept (1 + k)) 0 ≡ min n lag
   unfolding loop
   counted zero h = omega arith
   counted (suc n) h = go (leb (1 + n) lag) refl (counted n (omega arith))
     where
       go : (t : Bool) → leb (1 + n) lag ≡ t → {so_far : ℕ} → so_far ≡ min n lag
-          → lagStep kept (1 + n) so_far ≡ min (suc n) lag
+          → lag_step kept (1 + n) so_far ≡ min (suc n) lag
       go true e d =
           let below = leb-true (1 + n) lag e in
           rw (T_true (le (of_int binary32 (pos (1 + n))) kept)
           (le_of_values (of_int binary32 (pos (1 + n))) kept (1 + n) 1 lag 1 (omega arith) (omega arith)
-          (whole-value (1 + n) (omega arith)) (whole-value lag small) (omega arith)))
+          (whole_value (1 + n) (omega arith)) (whole_value lag small) (omega arith)))
           (omega arith)
       go false e d =
           let over = leb-false (1 + n) lag e in
-          rw (above (of_int binary32 (pos (1 + n))) kept (1 + n) lag (whole-value (1 + n) (omega arith))
-          (whole-value lag small) over)
+          rw (above (of_int binary32 (pos (1 + n))) kept (1 + n) lag (whole_value (1 + n) (omega arith))
+          (whole_value lag small) over)
           (d ∙ omega arith)
 
-pub lag-back : LagIsBack
-unfolding wholeLag range
-lag-back lag small = counted lag small 768 (omega arith) ∙ omega arith
+pub lag_back : LagIsBack
+unfolding whole_lag range
+lag_back lag small = counted lag small 768 (omega arith) ∙ omega arith

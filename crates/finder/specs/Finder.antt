@@ -3,29 +3,29 @@
 use Rattle.rules.specs.Common.{ℕ, ◌-◌, List, Float}
 use Rattle.rules.specs.F32.{f32}
 use Rattle.pitch.specs.Downsample.{downsampled}
-use Rattle.finder.specs.Doubling.{removeDoubling}
-use Rattle.finder.specs.Kept.{wholeLag}
-use Rattle.finder.specs.Search.{pitchSearch}
+use Rattle.finder.specs.Doubling.{remove_doubling}
+use Rattle.finder.specs.Kept.{whole_lag}
+use Rattle.finder.specs.Search.{pitch_search}
 use Rattle.finder.specs.declared.Found.{Found}
 use Rattle.finder.specs.declared.Pitch.{Pitch}
 
 unfoldable pub process : ℕ → Float → List Float → Pitch
 process lastPeriod lastGain input = let buf = downsampled input in
-    removeDoubling buf (768 - pitchSearch buf) lastPeriod lastGain
+    remove_doubling buf (768 - pitch_search buf) lastPeriod lastGain
 
 -- with a last period that may be any number
 abbrev pub find : Float → Float → List Float → Pitch
-find lastPeriod lastGain input = process (wholeLag lastPeriod) lastGain input
+find lastPeriod lastGain input = process (whole_lag lastPeriod) lastGain input
 
 -- an answer's number, its period and its gain
-abbrev pub foundNumber : Found → ℕ
-foundNumber (Found.At pitch) = 0
-foundNumber (Found.Refused n) = n
+abbrev pub found_number : Found → ℕ
+found_number (Found.At pitch) = 0
+found_number (Found.Refused n) = n
 
-abbrev pub periodIn : Found → ℕ
-periodIn (Found.At pitch) = pitch.period
-periodIn (Found.Refused n) = 0
+abbrev pub period_in : Found → ℕ
+period_in (Found.At pitch) = pitch.period
+period_in (Found.Refused n) = 0
 
-abbrev pub gainIn : Found → Float
-gainIn (Found.At pitch) = pitch.gain
-gainIn (Found.Refused n) = f32 0
+abbrev pub gain_in : Found → Float
+gain_in (Found.At pitch) = pitch.gain
+gain_in (Found.Refused n) = f32 0

@@ -1,8 +1,8 @@
 // `remove_doubling` of pitch.rs: whether a half, a third, down to a fifteenth of the period found fits as well.
 ghost use Rattle.std.specs.Prelude.{◌≡◌, ◌/◌, ◌≤◌, min, length};
-ghost use Rattle.finder.specs.Doubling.{pitchGain, productAt, yyLookup, shortened, secondCheck, secondPlace};
+ghost use Rattle.finder.specs.Doubling.{pitch_gain, product_at, yy_lookup, shortened, second_check, second_place};
 ghost use Rattle.finder.specs.Doubling.{continuity, threshold};
-ghost use Rattle.finder.specs.Doubling.{preferred, shorter, explained, gainOf, periodAt, removed, removeDoubling};
+ghost use Rattle.finder.specs.Doubling.{preferred, shorter, explained, gain_of, period_at, removed, remove_doubling};
 
 use crate::{Pitch, search};
 
@@ -40,7 +40,7 @@ pub struct Chosen {
 
 // `pitch_gain` of pitch.rs.
 fn pitch_gain(xy: f32, xx: f32, yy: f32) -> f32
-    ensures { result ≡ pitchGain xy xx yy }
+    ensures { result ≡ pitch_gain xy xx yy }
 {
     xy / numbers::sqrt(1.0 + xx * yy)
 }
@@ -48,7 +48,7 @@ fn pitch_gain(xy: f32, xx: f32, yy: f32) -> f32
 // The product of the last 480 numbers with those t before.
 fn product_at(x: &[f32], t: usize) -> f32
     requires { (length x.now ≡ 864) × (t ≤ 384) }
-    ensures { result ≡ productAt x.now t }
+    ensures { result ≡ product_at x.now t }
 {
     let from = 384 - t;
     pitch_search::inner_prod(&x[384..], &x[from..], 480).sum()
@@ -57,7 +57,7 @@ fn product_at(x: &[f32], t: usize) -> f32
 // The energies of the 480 numbers that lie 0 to 384 back.
 fn look_up(lookup: &mut [f32], x: &[f32], xx: f32)
     requires { (length lookup.old ≡ 385) × (length x.now ≡ 864) }
-    ensures { lookup.new ≡ yyLookup x.now xx }
+    ensures { lookup.new ≡ yy_lookup x.now xx }
 {
     lookup[0] = xx;
     let mut yy = xx;
@@ -68,7 +68,7 @@ fn look_up(lookup: &mut [f32], x: &[f32], xx: f32)
 }
 
 fn second_check() -> [usize; 16]
-    ensures { result ≡ secondCheck }
+    ensures { result ≡ second_check }
 {
     SECOND_CHECK
 }
@@ -84,7 +84,7 @@ fn shorten(t0: usize, k: usize) -> usize
 // Where a period of t1 must show again.
 fn second_place(t0: usize, t1: usize, k: usize) -> usize
     requires { (t0 ≤ 383) × (t1 ≤ 383) × (2 ≤ k) × (k ≤ 15) }
-    ensures { result ≡ secondPlace t0 t1 k }
+    ensures { result ≡ second_place t0 t1 k }
 {
     if k == 2 {
         if t1 + t0 > 384 {
@@ -175,7 +175,7 @@ fn explain(best_xy: f32, best_yy: f32) -> f32
 }
 
 fn gain_of(best: Chosen) -> f32
-    ensures { result ≡ gainOf best }
+    ensures { result ≡ gain_of best }
 {
     let best_xy = numbers::max(best.xy, 0.0);
     numbers::min(explain(best_xy, best.yy), best.g)
@@ -184,7 +184,7 @@ fn gain_of(best: Chosen) -> f32
 // Twice the period t, one more or less where the products beside it lean, and 60 at the least.
 fn period_at(x: &[f32], t: usize) -> usize
     requires { (length x.now ≡ 864) × (30 ≤ t) × (t ≤ 383) }
-    ensures { result ≡ periodAt x.now t }
+    ensures { result ≡ period_at x.now t }
 {
     let period = 2 * t + search::lean(product_at(x, t - 1), product_at(x, t), product_at(x, t + 1))
         - 1;
@@ -242,7 +242,7 @@ pub(crate) fn remove_doubling(
     last_gain: f32,
 ) -> Pitch
     requires { (length x.now ≡ 864) × (60 ≤ pitch_idx) }
-    ensures { result ≡ removeDoubling x.now pitch_idx last_period last_gain }
+    ensures { result ≡ remove_doubling x.now pitch_idx last_period last_gain }
 {
     let mut lookup = [0.0f32; 385];
     remove_in(

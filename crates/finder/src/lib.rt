@@ -5,7 +5,7 @@
 //     doubling    `remove_doubling` and `pitch_gain`
 ghost use Rattle.std.specs.Prelude.{◌≡◌, length};
 ghost use Rattle.rules.specs.Leaf.{Leaf};
-ghost use Rattle.finder.specs.Finder.{process, find, foundNumber, periodIn, gainIn};
+ghost use Rattle.finder.specs.Finder.{process, find, found_number, period_in, gain_in};
 
 pub mod doubling;
 pub mod kept;
@@ -28,7 +28,7 @@ pub enum Found {
 impl Found {
     // 0, or the number of the refusal.
     pub fn number(self) -> u32
-        ensures { result ≡ foundNumber self }
+        ensures { result ≡ found_number self }
     {
         match self {
             Found::At(_) => 0,
@@ -38,7 +38,7 @@ impl Found {
 
     // The period and the gain, 0 where they were refused.
     pub fn period(self) -> usize
-        ensures { result ≡ periodIn self }
+        ensures { result ≡ period_in self }
     {
         match self {
             Found::At(pitch) => pitch.period,
@@ -47,7 +47,7 @@ impl Found {
     }
 
     pub fn gain(self) -> f32
-        ensures { result ≡ gainIn self }
+        ensures { result ≡ gain_in self }
     {
         match self {
             Found::At(pitch) => pitch.gain,

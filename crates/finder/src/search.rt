@@ -1,8 +1,8 @@
 // `pitch_search` of pitch.rs: a coarse search over every second number, a finer one around its two best, and an
 // interpolation.
 ghost use Rattle.std.specs.Prelude.{◌≡◌, ◌*◌, ◌<◌, ◌≤◌, length};
-ghost use Rattle.finder.specs.Search.{apart, leaning, everySecond, coarse, peakAt, fineAt, fine, interpolated};
-ghost use Rattle.finder.specs.Search.{pitchSearch};
+ghost use Rattle.finder.specs.Search.{apart, leaning, every_second, coarse, peak_at, fine_at, fine, interpolated};
+ghost use Rattle.finder.specs.Search.{pitch_search};
 
 use pitch_search::Pitches;
 
@@ -32,7 +32,7 @@ pub(crate) fn lean(a: f32, b: f32, c: f32) -> usize
 // Every second number of xs, as many as out has places.
 fn every_second(out: &mut [f32], xs: &[f32])
     requires { 2 * length out.old ≤ length xs.now }
-    ensures { out.new ≡ everySecond (length out.old) xs.now }
+    ensures { out.new ≡ every_second (length out.old) xs.now }
 {
     for j in 0..out.len() {
         out[j] = xs[2 * j];
@@ -64,7 +64,7 @@ fn coarse_pitches(buf: &[f32]) -> Pitches
 // The correlation at lag i, -1 at the least.
 fn peak_at(buf: &[f32], i: usize) -> f32
     requires { (length buf.now ≡ 864) × (i < 294) }
-    ensures { result ≡ peakAt buf.now i }
+    ensures { result ≡ peak_at buf.now i }
 {
     numbers::max(
         pitch_search::inner_prod(&buf[384..], &buf[i..], 480).sum(),
@@ -75,7 +75,7 @@ fn peak_at(buf: &[f32], i: usize) -> f32
 // The same near one of the two best of the coarse search, and else 0.
 fn correlate(buf: &[f32], first: usize, second: usize, i: usize) -> f32
     requires { (length buf.now ≡ 864) × (first < 147) × (second < 147) × (i < 294) }
-    ensures { result ≡ fineAt buf.now first second i }
+    ensures { result ≡ fine_at buf.now first second i }
 {
     if distance(i, 2 * first) <= 2 {
         return peak_at(buf, i);
@@ -112,7 +112,7 @@ fn interpolate(xcorr: &[f32], best: usize) -> usize
 // The finer search, in lent scratch.
 fn search_in(xcorr: &mut [f32], buf: &[f32]) -> usize
     requires { (length xcorr.old ≡ 294) × (length buf.now ≡ 864) }
-    ensures { result ≡ pitchSearch buf.now }
+    ensures { result ≡ pitch_search buf.now }
 {
     let pitches = coarse_pitches(buf);
     correlations(xcorr, buf, pitches.first(), pitches.second());
@@ -125,7 +125,7 @@ fn search_in(xcorr: &mut [f32], buf: &[f32]) -> usize
 // The place of the best lag, 0 to 586.
 pub(crate) fn search(buf: &[f32]) -> usize
     requires { length buf.now ≡ 864 }
-    ensures { result ≡ pitchSearch buf.now }
+    ensures { result ≡ pitch_search buf.now }
 {
     let mut xcorr = [0.0f32; 294];
     search_in(&mut xcorr, buf)

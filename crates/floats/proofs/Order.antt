@@ -23,14 +23,14 @@ use lib.Ieee.Fits.{and_i, and_l, and_r, eq→eqb, down_pos}
 use lib.Ieee.Order.{round_mono}
 use lib.Ieee.Positive.{through}
 use borrow.Author.Tests.{le-ltb, ltb-true, ltb-false, eq-eqb}
-use Rattle.floats.proofs.Rounded.{rounded, zero-rounds}
-use Rattle.floats.proofs.Signs.{neg-round}
+use Rattle.floats.proofs.Rounded.{rounded, zero_rounds}
+use Rattle.floats.proofs.Signs.{neg_round}
 
 -- ---- equal, below, above
 
-level-apart : (s : Bool) (a : ℕ) (t : Bool) (b : ℕ) → level s a t b ≡ true
+level_apart : (s : Bool) (a : ℕ) (t : Bool) (b : ℕ) → level s a t b ≡ true
     → (below s a t b ≡ false) × (below t b s a ≡ false)
-level-apart s a t b h =
+level_apart s a t b h =
     let says : T (level s a t b) = subst T (sym h) tt in
     go s t (eqb→eq a b (and_l (eqb a b) (beq s t || eqb a 0) says))
     (and_r (eqb a b) (beq s t || eqb a 0) says)
@@ -41,18 +41,18 @@ level-apart s a t b h =
     go false true e z = (refl, le-ltb 0 (b + a) (omega (arith, eqb→eq a 0 z)))
     go true false e z = (le-ltb 0 (a + b) (omega (arith, eqb→eq a 0 z)), refl)
 
-pub not-lt : (x y : Float) → eq x y ≡ true → (is_nan x ≡ false) × (lt x y ≡ false) × (lt y x ≡ false)
+pub not_lt : (x y : Float) → eq x y ≡ true → (is_nan x ≡ false) × (lt x y ≡ false) × (lt y x ≡ false)
 unfolding is_nan lt eq
-not-lt nan y h = absurd (false≢true h)
-not-lt (inf s) nan h = absurd (false≢true h)
-not-lt (inf true) (inf true) h = (refl, refl, refl)
-not-lt (inf true) (inf false) h = absurd (false≢true h)
-not-lt (inf false) (inf true) h = absurd (false≢true h)
-not-lt (inf false) (inf false) h = (refl, refl, refl)
-not-lt (inf s) (fin t n d) h = absurd (false≢true h)
-not-lt (fin s m e) nan h = absurd (false≢true h)
-not-lt (fin s m e) (inf t) h = absurd (false≢true h)
-not-lt (fin s m e) (fin t n d) h = let k = level-apart s (m * up e * down d) t (n * up d * down e) h in
+not_lt nan y h = absurd (false≢true h)
+not_lt (inf s) nan h = absurd (false≢true h)
+not_lt (inf true) (inf true) h = (refl, refl, refl)
+not_lt (inf true) (inf false) h = absurd (false≢true h)
+not_lt (inf false) (inf true) h = absurd (false≢true h)
+not_lt (inf false) (inf false) h = (refl, refl, refl)
+not_lt (inf s) (fin t n d) h = absurd (false≢true h)
+not_lt (fin s m e) nan h = absurd (false≢true h)
+not_lt (fin s m e) (inf t) h = absurd (false≢true h)
+not_lt (fin s m e) (fin t n d) h = let k = level_apart s (m * up e * down d) t (n * up d * down e) h in
     (refl, k.0, k.1)
 
 above_apart : (s : Bool) (a : ℕ) (t : Bool) (b : ℕ) → below t b s a ≡ true → below s a t b ≡ false
@@ -61,19 +61,19 @@ above_apart false a true b h = refl
 above_apart true a false b h = absurd (false≢true h)
 above_apart true a true b h = le-ltb b a (omega (arith, ltb-true a b h))
 
-pub lt-asym : (x y : Float) → lt y x ≡ true → (is_nan x ≡ false) × (lt x y ≡ false)
+pub lt_asym : (x y : Float) → lt y x ≡ true → (is_nan x ≡ false) × (lt x y ≡ false)
 unfolding is_nan lt
-lt-asym x nan h = absurd (false≢true h)
-lt-asym nan (inf t) h = absurd (false≢true h)
-lt-asym nan (fin t n d) h = absurd (false≢true h)
-lt-asym (inf true) (inf true) h = absurd (false≢true h)
-lt-asym (inf true) (inf false) h = absurd (false≢true h)
-lt-asym (inf false) (inf t) h = (refl, refl)
-lt-asym (inf true) (fin t n d) h = absurd (false≢true h)
-lt-asym (inf false) (fin t n d) h = (refl, refl)
-lt-asym (fin s m e) (inf true) h = (refl, refl)
-lt-asym (fin s m e) (inf false) h = absurd (false≢true h)
-lt-asym (fin s m e) (fin t n d) h = (refl, above_apart s (m * up e * down d) t (n * up d * down e) h)
+lt_asym x nan h = absurd (false≢true h)
+lt_asym nan (inf t) h = absurd (false≢true h)
+lt_asym nan (fin t n d) h = absurd (false≢true h)
+lt_asym (inf true) (inf true) h = absurd (false≢true h)
+lt_asym (inf true) (inf false) h = absurd (false≢true h)
+lt_asym (inf false) (inf t) h = (refl, refl)
+lt_asym (inf true) (fin t n d) h = absurd (false≢true h)
+lt_asym (inf false) (fin t n d) h = (refl, refl)
+lt_asym (fin s m e) (inf true) h = (refl, refl)
+lt_asym (fin s m e) (inf false) h = absurd (false≢true h)
+lt_asym (fin s m e) (fin t n d) h = (refl, above_apart s (m * up e * down d) t (n * up d * down e) h)
 
 -- where neither is below the other they compare equal
 as_high : (s : Bool) (a : ℕ) (t : Bool) (b : ℕ) → below s a t b ≡ false → below t b s a ≡ false → level s a t b ≡ true
@@ -106,11 +106,11 @@ itself x p = go (lt x x) refl
   where
     go : (b : Bool) → lt x x ≡ b → eq x x ≡ true
     go false h = even x x p p h h
-    go true h = absurd (false≢true (sym (lt-asym x x h).1 ∙ h))
+    go true h = absurd (false≢true (sym (lt_asym x x h).1 ∙ h))
 
-pub not-below : (x y : Float) → is_nan x ≡ false → is_nan y ≡ false → lt x y ≡ false → le y x ≡ true
+pub not_below : (x y : Float) → is_nan x ≡ false → is_nan y ≡ false → lt x y ≡ false → le y x ≡ true
 unfolding le
-not-below x y p q h = go (lt y x) refl
+not_below x y p q h = go (lt y x) refl
   where
     go : (b : Bool) → lt y x ≡ b → (lt y x || eq y x) ≡ true
     go true k = rw k
@@ -219,19 +219,19 @@ none : (n u : ℕ) → 0 < u → n * u ≡ 0 → n ≡ 0
 none n u h e = eq_of_mul-eq-mul_right u h n 0 (e ∙ sym (zero-mul u))
 
 -- x / p ≤ y / q ≤ z / r, with their signs
-under-trans : (s t u : Bool) (x y z p q r : ℕ) → 0 < p → 0 < q → 0 < r → Under s (x * q) t (y * p)
+under_trans : (s t u : Bool) (x y z p q r : ℕ) → 0 < p → 0 < q → 0 < r → Under s (x * q) t (y * p)
     → Under t (y * r) u (z * q) → Under s (x * r) u (z * p)
-under-trans false false false x y z p q r P Q R h k = through x y z p q r Q h k
-under-trans true true true x y z p q r P Q R h k = through z y x r q p Q k h
-under-trans true t false x y z p q r P Q R h k = tt
-under-trans true false true x y z p q r P Q R h k = let z₀ = none z q Q k.1 in rw (z₀, zero-mul p) (omega arith)
-under-trans false true false x y z p q r P Q R h k = let x₀ = none x q Q h.0 in rw (x₀, zero-mul r) (omega arith)
-under-trans false false true x y z p q r P Q R h k =
+under_trans false false false x y z p q r P Q R h k = through x y z p q r Q h k
+under_trans true true true x y z p q r P Q R h k = through z y x r q p Q k h
+under_trans true t false x y z p q r P Q R h k = tt
+under_trans true false true x y z p q r P Q R h k = let z₀ = none z q Q k.1 in rw (z₀, zero-mul p) (omega arith)
+under_trans false true false x y z p q r P Q R h k = let x₀ = none x q Q h.0 in rw (x₀, zero-mul r) (omega arith)
+under_trans false false true x y z p q r P Q R h k =
     let y₀ = none y r R k.0 in
     let z₀ = none z q Q k.1 in
     let x₀ = none x q Q (let b : x * q ≤ 0 * p = rw y₀ at h in omega (arith, zero-mul p)) in
     rw (x₀, z₀) (zero-mul r, zero-mul p)
-under-trans false true true x y z p q r P Q R h k =
+under_trans false true true x y z p q r P Q R h k =
     let x₀ = none x q Q h.0 in
     let y₀ = none y p P h.1 in
     let z₀ = none z q Q (let b : z * q ≤ 0 * r = rw y₀ at k in omega (arith, zero-mul r)) in
@@ -253,24 +253,24 @@ lowest (fin s m e) nan h = absurd h
 lowest (fin s m e) (inf t) h = tt
 lowest (fin s m e) (fin t n d) h = tt
 
-most-trans : (x y z : Float) → AtMost x y → AtMost y z → AtMost x z
-most-trans nan y z h k = absurd h
-most-trans (inf true) y z h k = lowest y z k
-most-trans (inf false) y z h k = rw (top y h) at k
-most-trans (fin s m e) nan z h k = absurd h
-most-trans (fin s m e) (inf true) z h k = absurd h
-most-trans (fin s m e) (inf false) z h k = rw (top z k) tt
-most-trans (fin s m e) (fin t n d) nan h k = absurd k
-most-trans (fin s m e) (fin t n d) (inf true) h k = absurd k
-most-trans (fin s m e) (fin t n d) (inf false) h k = tt
-most-trans (fin s m e) (fin t n d) (fin u l c) h k =
-    under-trans s t u (m * up e) (n * up d) (l * up c) (down e) (down d) (down c) (down_pos e) (down_pos d)
+most_trans : (x y z : Float) → AtMost x y → AtMost y z → AtMost x z
+most_trans nan y z h k = absurd h
+most_trans (inf true) y z h k = lowest y z k
+most_trans (inf false) y z h k = rw (top y h) at k
+most_trans (fin s m e) nan z h k = absurd h
+most_trans (fin s m e) (inf true) z h k = absurd h
+most_trans (fin s m e) (inf false) z h k = rw (top z k) tt
+most_trans (fin s m e) (fin t n d) nan h k = absurd k
+most_trans (fin s m e) (fin t n d) (inf true) h k = absurd k
+most_trans (fin s m e) (fin t n d) (inf false) h k = tt
+most_trans (fin s m e) (fin t n d) (fin u l c) h k =
+    under_trans s t u (m * up e) (n * up d) (l * up c) (down e) (down d) (down c) (down_pos e) (down_pos d)
     (down_pos c) h k
 
 -- ---- what is rounded
 
-above-lowest : (f : Format) (s : Bool) (a b : ℕ) → AtMost (inf true) (round f s a b)
-above-lowest f s = rounded f s (AtMost (inf true)) tt (λ m e. tt)
+above_lowest : (f : Format) (s : Bool) (a b : ℕ) → AtMost (inf true) (round f s a b)
+above_lowest f s = rounded f s (AtMost (inf true)) tt (λ m e. tt)
 
 below_top : (f : Format) (s : Bool) (a b : ℕ) → AtMost (round f s a b) (inf false)
 below_top f true = rounded f true (λ x. AtMost x (inf false)) tt (λ m e. tt)
@@ -278,30 +278,30 @@ below_top f false = rounded f false (λ x. AtMost x (inf false)) tt (λ m e. tt)
 
 across : (f : Format) (a b c d : ℕ) → AtMost (round f true a b) (round f false c d)
 across f a b c d =
-    rounded f true (λ x. AtMost x (round f false c d)) (above-lowest f false c d)
+    rounded f true (λ x. AtMost x (round f false c d)) (above_lowest f false c d)
     (λ m e. rounded f false (AtMost (fin true m e)) tt (λ n g. tt) c d) a b
 
 -- the other sign turns it
-under-turned : (s : Bool) (a : ℕ) (t : Bool) (b : ℕ) → Under s a t b → Under (not t) b (not s) a
-under-turned false a false b h = h
-under-turned true a true b h = h
-under-turned true a false b h = tt
-under-turned false a true b h = (h.1, h.0)
+under_turned : (s : Bool) (a : ℕ) (t : Bool) (b : ℕ) → Under s a t b → Under (not t) b (not s) a
+under_turned false a false b h = h
+under_turned true a true b h = h
+under_turned true a false b h = tt
+under_turned false a true b h = (h.1, h.0)
 
-most-turned : (x y : Float) → AtMost x y → AtMost (neg y) (neg x)
+most_turned : (x y : Float) → AtMost x y → AtMost (neg y) (neg x)
 unfolding neg
-most-turned nan y h = absurd h
-most-turned (inf s) nan h = absurd h
-most-turned (fin s m e) nan h = absurd h
-most-turned (inf true) (inf true) h = tt
-most-turned (inf true) (inf false) h = tt
-most-turned (inf true) (fin t n d) h = tt
-most-turned (inf false) (inf true) h = absurd h
-most-turned (inf false) (inf false) h = tt
-most-turned (inf false) (fin t n d) h = absurd h
-most-turned (fin s m e) (inf true) h = absurd h
-most-turned (fin s m e) (inf false) h = tt
-most-turned (fin s m e) (fin t n d) h = under-turned s (m * up e * down d) t (n * up d * down e) h
+most_turned nan y h = absurd h
+most_turned (inf s) nan h = absurd h
+most_turned (fin s m e) nan h = absurd h
+most_turned (inf true) (inf true) h = tt
+most_turned (inf true) (inf false) h = tt
+most_turned (inf true) (fin t n d) h = tt
+most_turned (inf false) (inf true) h = absurd h
+most_turned (inf false) (inf false) h = tt
+most_turned (inf false) (fin t n d) h = absurd h
+most_turned (fin s m e) (inf true) h = absurd h
+most_turned (fin s m e) (inf false) h = tt
+most_turned (fin s m e) (fin t n d) h = under_turned s (m * up e * down d) t (n * up d * down e) h
 
 -- zeros of any sign
 zeros : (x y : Float) (b d : ℕ) → 0 < b → 0 < d → HasValue x false 0 b → HasValue y true 0 d → AtMost x y
@@ -315,20 +315,20 @@ zeros (fin s m e) (fin t n c) b d B D h k =
     rw (h.0, k.0, x₀, y₀) (zero-mul (down c), zero-mul (down e))
 
 -- ±a / b at most ±c / d, rounded
-round-order : (f : Format) (s t : Bool) (a b c d : ℕ) → 0 < b → 0 < d → Under s (a * d) t (c * b)
+round_order : (f : Format) (s t : Bool) (a b c d : ℕ) → 0 < b → 0 < d → Under s (a * d) t (c * b)
     → AtMost (round f s a b) (round f t c d)
-round-order f false false a b c d B D h = most (round f false a b) (round f false c d) (round_mono f a b c d B D h)
-round-order f true true a b c d B D h =
-    rw (neg-round f false a b, neg-round f false c d)
-    (most-turned (round f false c d) (round f false a b) (most _ _ (round_mono f c d a b D B h)))
-round-order f true false a b c d B D h = across f a b c d
-round-order f false true a b c d B D h =
+round_order f false false a b c d B D h = most (round f false a b) (round f false c d) (round_mono f a b c d B D h)
+round_order f true true a b c d B D h =
+    rw (neg_round f false a b, neg_round f false c d)
+    (most_turned (round f false c d) (round f false a b) (most _ _ (round_mono f c d a b D B h)))
+round_order f true false a b c d B D h = across f a b c d
+round_order f false true a b c d B D h =
     let a₀ = none a d D h.0 in
     let c₀ = none c b B h.1 in
     rw (
       a₀,
       c₀,
-    ) (zeros (round f false 0 b) (round f true 0 d) b d B D (zero-rounds f false b B) (zero-rounds f true d D))
+    ) (zeros (round f false 0 b) (round f true 0 d) b d B D (zero_rounds f false b B) (zero_rounds f true d D))
 
 -- ---- a product by a factor above zero
 
@@ -357,7 +357,7 @@ module _ (f : Format) (k : ℕ) (w : ℤ) where
   product (inf s) nan h = absurd h
   product (fin s m e) nan h = absurd h
   product (inf true) (inf t) h = rw (eqb-suc-zero k) tt
-  product (inf true) (fin t n d) h = rw (eqb-suc-zero k) (above-lowest f (unlike false t) _ _)
+  product (inf true) (fin t n d) h = rw (eqb-suc-zero k) (above_lowest f (unlike false t) _ _)
   product (inf false) (inf true) h = absurd h
   product (inf false) (inf false) h = rw (eqb-suc-zero k) tt
   product (inf false) (fin t n d) h = absurd h
@@ -365,15 +365,15 @@ module _ (f : Format) (k : ℕ) (w : ℤ) where
   product (fin s m e) (inf false) h = rw (eqb-suc-zero k) (below_top f (unlike false s) _ _)
   product (fin s m e) (fin t n d) h =
       rw (not-not s, not-not t)
-      (round-order f s t (suc k * up w * (m * up e)) (down w * down e) (suc k * up w * (n * up d)) (down w * down d)
+      (round_order f s t (suc k * up w * (m * up e)) (down w * down e) (suc k * up w * (n * up d)) (down w * down d)
       (mul-pos (down_pos w) (down_pos e)) (mul-pos (down_pos w) (down_pos d))
       (scaled s t (m * up e) (n * up d) (down e) (down d) h))
 
 -- ---- as equations
 
 pub le_trans : (x y z : Float) → le x y ≡ true → le y z ≡ true → le x z ≡ true
-le_trans x y z h k = is_true _ (is_le x z (most-trans x y z (most x y (rw h tt)) (most y z (rw k tt))))
+le_trans x y z h k = is_true _ (is_le x z (most_trans x y z (most x y (rw h tt)) (most y z (rw k tt))))
 
-pub product-mono : (f : Format) (k : ℕ) (w : ℤ) (x y : Float) → le x y ≡ true
+pub product_mono : (f : Format) (k : ℕ) (w : ℤ) (x y : Float) → le x y ≡ true
     → le (mul f (fin false (suc k) w) x) (mul f (fin false (suc k) w) y) ≡ true
-product-mono f k w x y h = is_true _ (is_le _ _ (product f k w x y (most x y (rw h tt))))
+product_mono f k w x y h = is_true _ (is_le _ _ (product f k w x y (most x y (rw h tt))))

@@ -4,24 +4,24 @@ use Rattle.rules.proofs.Common.{ℕ, ◌+◌, ◌≤◌, List, [], ◌∷◌, �
 use native.Mathlib.Omega.{arith}
 use Rattle.rules.specs.F32.{f32}
 use Rattle.rules.specs.Place.{Place, get, put}
-use Rattle.rules.proofs.Places.{Apart, length-get, length-put, get-put-apart}
-use Rattle.rules.proofs.Lists.{length-tab}
-use Rattle.numbers.specs.Filter.{highPass, outputs}
-use Rattle.numbers.proofs.Outputs.{length-outputs}
-use Rattle.bands.proofs.Results.{length-corr}
+use Rattle.rules.proofs.Places.{Apart, length_get, length_put, get_put_apart}
+use Rattle.rules.proofs.Lists.{length_tab}
+use Rattle.numbers.specs.Filter.{high_pass, outputs}
+use Rattle.numbers.proofs.Outputs.{length_outputs}
+use Rattle.bands.proofs.Results.{length_corr}
 use Rattle.model.specs.Model.{read_of}
 use Rattle.model.specs.declared.Model.{Model}
 use Rattle.model.specs.declared.Reading.TheVariants.{Good}
-use Rattle.network.specs.Compute.{Outcome, layersInPlace}
+use Rattle.network.specs.Compute.{Outcome, layers_in_place}
 use Rattle.network.specs.Private.{Lengths}
-use Rattle.network.proofs.Callers.{computed-done, kept}
-use Rattle.features.specs.Features.{withCepstrum}
-use Rattle.features.proofs.Lengths.{length-gained, length-with-cepstrum, length-features}
-use Rattle.frame.specs.Share.{PART, inputMem, synthesisMem, keptX, keptEx, keptLag, memHpX, lastg, cepstralMem}
-use Rattle.frame.specs.Share.{vadState, noiseState, denoiseState}
-use Rattle.numbers.specs.Filter.{memoryOf}
-use Rattle.frame.specs.Heard.{scaled, energies, featured, rnnOf, spokenFrom, spoken}
-use Rattle.frame.specs.Frame.{shifted, done1, putKept, windowBuf, laterHalf, done4}
+use Rattle.network.proofs.Callers.{computed_done, kept}
+use Rattle.features.specs.Features.{with_cepstrum}
+use Rattle.features.proofs.Lengths.{length_gained, length_with_cepstrum, length_features}
+use Rattle.frame.specs.Share.{PART, input_mem, synthesis_mem, kept_x, kept_ex, kept_lag, mem_hp_x, lastg, cepstral_mem}
+use Rattle.frame.specs.Share.{vad_state, noise_state, denoise_state}
+use Rattle.numbers.specs.Filter.{memory_of}
+use Rattle.frame.specs.Heard.{scaled, energies, featured, rnn_of, spoken_from, spoken}
+use Rattle.frame.specs.Frame.{shifted, done1, put_kept, window_buf, later_half, done4}
 
 -- the place lies apart from each of these
 abbrev pub AllApart : List Place → Place → Type 0
@@ -33,104 +33,104 @@ pub record Beside (q : Place) (share after : List Float) : Type 0 where
   pub same : get q after ≡ get q share
 
 module _ (q : Place) where
-  pub put-beside : (p : Place) (share ys : List Float) → p.at + p.size ≤ PART → Apart p q → length share ≡ PART
+  pub put_beside : (p : Place) (share ys : List Float) → p.at + p.size ≤ PART → Apart p q → length share ≡ PART
       → length ys ≡ p.size → Beside q share (put p share ys)
-  put-beside p share ys inside apart whole l =
+  put_beside p share ys inside apart whole l =
       record {
-        size = length-put p share ys (omega arith) l ∙ whole;
-        same = get-put-apart p q share ys (omega arith) l apart;
+        size = length_put p share ys (omega arith) l ∙ whole;
+        same = get_put_apart p q share ys (omega arith) l apart;
       }
 
   pub then : {a b c : List Float} → Beside q a b → Beside q b c → Beside q a c
   then h k = record { size = k.size; same = k.same ∙ h.same }
 
-  pub done1-beside : (share samples : List Float) → AllApart (inputMem ∷ memHpX ∷ []) q → length share ≡ PART
+  pub done1_beside : (share samples : List Float) → AllApart (input_mem ∷ mem_hp_x ∷ []) q → length share ≡ PART
       → length samples ≡ 480
       → Beside q share (done1 share samples).kept
   unfolding shifted
-  done1-beside share samples apart whole l =
-      let out = outputs highPass (memoryOf (get memHpX share)) samples in
-      let new : length (shifted (get inputMem share) out) ≡ 1728 =
-      simp (length-append, length-tab, length-outputs) (omega arith) in
-      let one = put-beside inputMem share (shifted (get inputMem share) out) (omega arith) apart.0 whole new in
-      then one (put-beside memHpX (put inputMem share (shifted (get inputMem share) out)) _ (omega arith) apart.1.0
+  done1_beside share samples apart whole l =
+      let out = outputs high_pass (memory_of (get mem_hp_x share)) samples in
+      let new : length (shifted (get input_mem share) out) ≡ 1728 =
+      simp (length-append, length_tab, length_outputs) (omega arith) in
+      let one = put_beside input_mem share (shifted (get input_mem share) out) (omega arith) apart.0 whole new in
+      then one (put_beside mem_hp_x (put input_mem share (shifted (get input_mem share) out)) _ (omega arith) apart.1.0
       one.size refl)
 
-  pub done2-beside : (share spectrum : List Float) (lag : ℕ) → AllApart (keptX ∷ keptEx ∷ keptLag ∷ []) q
+  pub done2_beside : (share spectrum : List Float) (lag : ℕ) → AllApart (kept_x ∷ kept_ex ∷ kept_lag ∷ []) q
       → length share ≡ PART
-      → Beside q share (putKept share spectrum lag)
-  unfolding putKept energies scaled
-  done2-beside share spectrum lag apart whole =
+      → Beside q share (put_kept share spectrum lag)
+  unfolding put_kept energies scaled
+  done2_beside share spectrum lag apart whole =
       let x = scaled spectrum in
-      let one = put-beside keptX share x (omega arith) apart.0 whole (length-tab 961 _) in
+      let one = put_beside kept_x share x (omega arith) apart.0 whole (length_tab 961 _) in
       let two =
-      then one (put-beside keptEx (put keptX share x) (energies spectrum) (omega arith) apart.1.0 one.size
-      (length-corr x x)) in
-      then two (put-beside keptLag (put keptEx (put keptX share x) (energies spectrum)) _ (omega arith) apart.1.1.0
+      then one (put_beside kept_ex (put kept_x share x) (energies spectrum) (omega arith) apart.1.0 one.size
+      (length_corr x x)) in
+      then two (put_beside kept_lag (put kept_ex (put kept_x share x) (energies spectrum)) _ (omega arith) apart.1.1.0
       two.size refl)
 
-  pub done4-beside : (share inverse : List Float) → AllApart (synthesisMem ∷ []) q → length share ≡ PART
+  pub done4_beside : (share inverse : List Float) → AllApart (synthesis_mem ∷ []) q → length share ≡ PART
       → Beside q share (done4 share inverse).kept
-  unfolding laterHalf
-  done4-beside share inverse apart whole =
-      put-beside synthesisMem share (laterHalf (windowBuf inverse)) (omega arith) apart.0 whole (length-tab 480 _)
+  unfolding later_half
+  done4_beside share inverse apart whole =
+      put_beside synthesis_mem share (later_half (window_buf inverse)) (omega arith) apart.0 whole (length_tab 480 _)
 
   -- ---- a heard frame
 
   -- the three states of 128 places
-  states-beside : (share v n d : List Float) → AllApart (vadState ∷ noiseState ∷ denoiseState ∷ []) q
+  states_beside : (share v n d : List Float) → AllApart (vad_state ∷ noise_state ∷ denoise_state ∷ []) q
       → length share ≡ PART
       → length v ≡ 128 → length n ≡ 128 → length d ≡ 128
-      → Beside q share (put denoiseState (put noiseState (put vadState share v) n) d)
-  states-beside share v n d apart whole a b c =
-      let one = put-beside vadState share v (omega arith) apart.0 whole a in
-      let two = then one (put-beside noiseState (put vadState share v) n (omega arith) apart.1.0 one.size b) in
-      then two (put-beside denoiseState (put noiseState (put vadState share v) n) d (omega arith) apart.1.1.0
+      → Beside q share (put denoise_state (put noise_state (put vad_state share v) n) d)
+  states_beside share v n d apart whole a b c =
+      let one = put_beside vad_state share v (omega arith) apart.0 whole a in
+      let two = then one (put_beside noise_state (put vad_state share v) n (omega arith) apart.1.0 one.size b) in
+      then two (put_beside denoise_state (put noise_state (put vad_state share v) n) d (omega arith) apart.1.1.0
       two.size c)
 
-  rnn-beside : (share features : List Float) (bytes : List ℕ) (m : Model)
-      → AllApart (vadState ∷ noiseState ∷ denoiseState ∷ []) q
+  rnn_beside : (share features : List Float) (bytes : List ℕ) (m : Model)
+      → AllApart (vad_state ∷ noise_state ∷ denoise_state ∷ []) q
       → read_of bytes ≡ Good m → length share ≡ PART → length features ≡ 42
-      → Beside q share (rnnOf share features bytes m).share
-  unfolding rnnOf
-  rnn-beside share features bytes m apart good whole few =
-      let v = get vadState share in
-      let n = get noiseState share in
-      let d = get denoiseState share in
-      let lv = length-get vadState share (omega arith) in
-      let ln = length-get noiseState share (omega arith) in
-      let ld = length-get denoiseState share (omega arith) in
+      → Beside q share (rnn_of share features bytes m).share
+  unfolding rnn_of
+  rnn_beside share features bytes m apart good whole few =
+      let v = get vad_state share in
+      let n = get noise_state share in
+      let d = get denoise_state share in
+      let lv = length_get vad_state share (omega arith) in
+      let ln = length_get noise_state share (omega arith) in
+      let ld = length_get denoise_state share (omega arith) in
       let g = replicate 22 (f32 0) in
       let a = replicate 1 (f32 0) in
       let fit : Lengths (length g) (length a) (length v) (length n) (length d) (length features) =
       record { gained = refl; voiced = refl; first = lv; second = ln; third = ld; featured = few } in
       let done =
-      computed-done g a v n d bytes features fit {m = m} {left = layersInPlace bytes m v n d features} good refl in
+      computed_done g a v n d bytes features fit {m = m} {left = layers_in_place bytes m v n d features} good refl in
       let k = kept g a v n d bytes features in
-      states-beside share _ _ _ apart whole
+      states_beside share _ _ _ apart whole
       (ap (λ (o : Outcome). length o.layers.vad) done ∙ k.first ∙ lv)
       (ap (λ (o : Outcome). length o.layers.noise) done ∙ k.second ∙ ln)
       (ap (λ (o : Outcome). length o.layers.denoise) done ∙ k.third ∙ ld)
 
   -- before the gains are remembered
-  pub sensed-beside : (share : List Float) (index : ℕ) (p ep logs : List Float) (bytes : List ℕ) (m : Model)
-      → AllApart (cepstralMem ∷ vadState ∷ noiseState ∷ denoiseState ∷ []) q → read_of bytes ≡ Good m
+  pub sensed_beside : (share : List Float) (index : ℕ) (p ep logs : List Float) (bytes : List ℕ) (m : Model)
+      → AllApart (cepstral_mem ∷ vad_state ∷ noise_state ∷ denoise_state ∷ []) q → read_of bytes ≡ Good m
       → length share ≡ PART → index ≤ 7
-      → let f = featured share index p ep logs in Beside q share (rnnOf f.share f.features bytes m).share
+      → let f = featured share index p ep logs in Beside q share (rnn_of f.share f.features bytes m).share
   unfolding featured
-  sensed-beside share index p ep logs bytes m apart good whole inside =
-      let mem = get cepstralMem share in
-      let row = length-with-cepstrum logs mem index (length-get cepstralMem share (omega arith)) inside in
-      let one = put-beside cepstralMem share (withCepstrum logs mem index) (omega arith) apart.0 whole row in
-      then one (rnn-beside (put cepstralMem share (withCepstrum logs mem index)) _ bytes m apart.1 good one.size
-      (length-features _ _ _ _ _))
+  sensed_beside share index p ep logs bytes m apart good whole inside =
+      let mem = get cepstral_mem share in
+      let row = length_with_cepstrum logs mem index (length_get cepstral_mem share (omega arith)) inside in
+      let one = put_beside cepstral_mem share (with_cepstrum logs mem index) (omega arith) apart.0 whole row in
+      then one (rnn_beside (put cepstral_mem share (with_cepstrum logs mem index)) _ bytes m apart.1 good one.size
+      (length_features _ _ _ _ _))
 
-  pub done3-beside : (share : List Float) (index : ℕ) (spectrum logs : List Float) (bytes : List ℕ) (m : Model)
-      → AllApart (lastg ∷ cepstralMem ∷ vadState ∷ noiseState ∷ denoiseState ∷ []) q → read_of bytes ≡ Good m
+  pub done3_beside : (share : List Float) (index : ℕ) (spectrum logs : List Float) (bytes : List ℕ) (m : Model)
+      → AllApart (lastg ∷ cepstral_mem ∷ vad_state ∷ noise_state ∷ denoise_state ∷ []) q → read_of bytes ≡ Good m
       → length share ≡ PART → index ≤ 7
       → Beside q share (spoken share index spectrum logs bytes m).share
-  unfolding spokenFrom
-  done3-beside share index spectrum logs bytes m apart good whole inside =
+  unfolding spoken_from
+  done3_beside share index spectrum logs bytes m apart good whole inside =
       let one =
-      sensed-beside share index (scaled spectrum) (energies spectrum) logs bytes m apart.1 good whole inside in
-      then one (put-beside lastg _ _ (omega arith) apart.0 one.size (length-gained _ _))
+      sensed_beside share index (scaled spectrum) (energies spectrum) logs bytes m apart.1 good whole inside in
+      then one (put_beside lastg _ _ (omega arith) apart.0 one.size (length_gained _ _))

@@ -15,20 +15,20 @@ pub over_none : (k : ℕ) (held : List Float) → over (from k []) held ≡ held
 unfolding put
 over_none k held = take-append-drop k held
 
-pub over-next : (k n : ℕ) (ys zs held : List Float) → length ys ≡ n → k ≤ length held
+pub over_next : (k n : ℕ) (ys zs held : List Float) → length ys ≡ n → k ≤ length held
     → over (from (k + n) zs) (over (from k ys) held) ≡ over (from k (ys ++ zs)) held
-over-next k n ys zs held e h = rw (← e) (put_next k held ys zs h)
+over_next k n ys zs held e h = rw (← e) (put_next k held ys zs h)
 
-pub lent-over : (start n : ℕ) (out new numbers : List Float) → new ≡ numbers → length numbers ≡ n
+pub lent_over : (start n : ℕ) (out new numbers : List Float) → new ≡ numbers → length numbers ≡ n
     → put (record { at = start; size = start + n - start }) out new ≡ over (from start numbers) out
-lent-over start n out new numbers e l = rw (add-sub_cancel_left start n, e, l)
+lent_over start n out new numbers e l = rw (add-sub_cancel_left start n, e, l)
 
-pub onto-more : (ws us : List Written) (hs gs : List (List Float)) → length ws ≡ length hs
+pub onto_more : (ws us : List Written) (hs gs : List (List Float)) → length ws ≡ length hs
     → onto (ws ++ us) (hs ++ gs) ≡ onto ws hs ++ onto us gs
-onto-more [] us [] gs l = refl
-onto-more [] us (h ∷ hs) gs l = absurd (omega arith)
-onto-more (w ∷ ws) us [] gs l = absurd (omega arith)
-onto-more (w ∷ ws) us (h ∷ hs) gs l = ap (λ (t : List (List Float)). over w h ∷ t) (onto-more ws us hs gs (omega arith))
+onto_more [] us [] gs l = refl
+onto_more [] us (h ∷ hs) gs l = absurd (omega arith)
+onto_more (w ∷ ws) us [] gs l = absurd (omega arith)
+onto_more (w ∷ ws) us (h ∷ hs) gs l = ap (λ (t : List (List Float)). over w h ∷ t) (onto_more ws us hs gs (omega arith))
 
 pub to_none : (ws : List Written) → length ws ≡ 0 → ws ≡ []
 to_none [] l = refl

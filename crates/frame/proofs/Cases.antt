@@ -9,86 +9,86 @@ use Rattle.model.specs.Model.{read_of}
 use Rattle.model.specs.declared.Model.{Model}
 use Rattle.model.specs.declared.Reading.{Reading}
 use Rattle.model.specs.declared.Reading.TheVariants.{Good, Refused as Unread}
-use Rattle.features.specs.Silence.{energy, isSilent}
+use Rattle.features.specs.Silence.{energy, is_silent}
 use Rattle.frame.specs.declared.Hearing.{Hearing}
 use Rattle.frame.specs.declared.Reply.TheVariants.{Refused, Misread}
-use Rattle.frame.specs.Share.{PART, keptEx}
+use Rattle.frame.specs.Share.{PART, kept_ex}
 use Rattle.frame.specs.Heard.{spoken}
 use Rattle.frame.specs.declared.Reply.{Reply}
 use Rattle.frame.specs.Effect.{Effect, refusal, unless}
 use Rattle.frame.specs.Reply.{passed, ◌refusedIf◌}
 use Rattle.frame.specs.Frame.{wrong, done1, call1, done2, call2, silent, heard, done3, counted, modelled, call3}
 use Rattle.frame.specs.Frame.{done4, call4}
-use Rattle.frame.proofs.Tables.{Clear, Each, not-when, by_number, by_rows}
+use Rattle.frame.proofs.Tables.{Clear, Each, not_when, by_number, by_rows}
 
 -- ---- the calls, for a claim P that every refusal meets
 
 module _ (share : List Float) (P : Effect Reply → Type 0) (bad : (n : ℕ) → P (refusal (Refused n) share)) where
   -- a row of a number and a test
-  pub by-its-number : (n : ℕ) (t : Bool) → passed (n refusedIf t) ≡ false → P (refusal (n refusedIf t) share)
-  by-its-number = by_number (λ reply. P (refusal reply share)) bad
+  pub by_its_number : (n : ℕ) (t : Bool) → passed (n refusedIf t) ≡ false → P (refusal (n refusedIf t) share)
+  by_its_number = by_number (λ reply. P (refusal reply share)) bad
 
-  pub by-table : (ps : List (ℕ × ℕ)) (rows : List Reply) (f : Effect Reply)
+  pub by_table : (ps : List (ℕ × ℕ)) (rows : List Reply) (f : Effect Reply)
       → Each (λ reply. P (refusal reply share)) rows
       → (Right ps → Clear rows → P f) → P (unless (5 refusedIf wrong ps ∷ rows) share f)
-  by-table ps rows f each h =
-      by_rows share f P (5 refusedIf wrong ps ∷ rows) (by-its-number 5 (wrong ps), each)
-      (λ c. h (right ps (not-when 5 (wrong ps) c.0)) c.1)
+  by_table ps rows f each h =
+      by_rows share f P (5 refusedIf wrong ps ∷ rows) (by_its_number 5 (wrong ps), each)
+      (λ c. h (right ps (not_when 5 (wrong ps) c.0)) c.1)
 
-  pub call1-by : (samples : List Float) (window : ℕ)
+  pub call1_by : (samples : List Float) (window : ℕ)
       → (length share ≡ PART → length samples ≡ 480 → P (done1 share samples))
       → P (call1 share samples window)
   unfolding call1
-  call1-by samples window h =
-      by-table ((length share, PART) ∷ (length samples, 480) ∷ (window, 960) ∷ []) (9 refusedIf not (good samples) ∷ [])
+  call1_by samples window h =
+      by_table ((length share, PART) ∷ (length samples, 480) ∷ (window, 960) ∷ []) (9 refusedIf not (good samples) ∷ [])
       (done1 share samples)
-      (by-its-number 9 (not (good samples)), tt) (λ r _. h r.0 r.1.0)
+      (by_its_number 9 (not (good samples)), tt) (λ r _. h r.0 r.1.0)
 
-  pub call2-by : (spectrum : List Float) (lag window sums : ℕ) → (length share ≡ PART → P (done2 share spectrum lag))
+  pub call2_by : (spectrum : List Float) (lag window sums : ℕ) → (length share ≡ PART → P (done2 share spectrum lag))
       → P (call2 share spectrum lag window sums)
   unfolding call2
-  call2-by spectrum lag window sums h =
-      by-table ((length share, PART) ∷ (length spectrum, 961) ∷ (window, 960) ∷ (sums, 22) ∷ [])
+  call2_by spectrum lag window sums h =
+      by_table ((length share, PART) ∷ (length spectrum, 961) ∷ (window, 960) ∷ (sums, 22) ∷ [])
       (6 refusedIf ltb 768 lag ∷ []) (done2 share spectrum lag)
-      (by-its-number 6 (ltb 768 lag), tt) (λ r _. h r.0)
+      (by_its_number 6 (ltb 768 lag), tt) (λ r _. h r.0)
 
   -- a model that is refused comes with what the reader says of it
-  pub call3-by : (hearing : Hearing) (spectrum logs : List Float) (model : List ℕ) (out : ℕ)
+  pub call3_by : (hearing : Hearing) (spectrum logs : List Float) (model : List ℕ) (out : ℕ)
       → ((n l : ℕ) → Unread n l ≡ read_of model → P (refusal (Misread n l) share))
       → P (silent share)
       → ((e : Float) (m : Model) → read_of model ≡ Good m → length share ≡ PART → hearing.index ≤ 7
       → P (heard e (spoken share hearing.index spectrum logs model m)))
       → P (call3 share hearing spectrum logs model out)
   unfolding call3 done3
-  call3-by hearing spectrum logs model out misread still h =
-      by-table ((length share, PART) ∷ (length spectrum, 961) ∷ (length logs, 22) ∷ (out, 961) ∷ [])
+  call3_by hearing spectrum logs model out misread still h =
+      by_table ((length share, PART) ∷ (length spectrum, 961) ∷ (length logs, 22) ∷ (out, 961) ∷ [])
       (5 refusedIf ltb 7 hearing.index ∷ [])
       (modelled (counted hearing) (read_of model) share (done3 share hearing.index spectrum logs model))
-      (by-its-number 5 (ltb 7 hearing.index), tt)
-      (λ r c. by-model r.0 (ltb-false 7 hearing.index (not-when 5 (ltb 7 hearing.index) c.0))
+      (by_its_number 5 (ltb 7 hearing.index), tt)
+      (λ r c. by_model r.0 (ltb-false 7 hearing.index (not_when 5 (ltb 7 hearing.index) c.0))
       (read_of model) refl)
     where
-      by-sound : (m : Model) → read_of model ≡ Good m → length share ≡ PART → hearing.index ≤ 7
+      by_sound : (m : Model) → read_of model ≡ Good m → length share ≡ PART → hearing.index ≤ 7
           → (t : Bool)
           → P (cond t (silent share)
-          (heard (energy (get keptEx share)) (spoken share hearing.index spectrum logs model m)))
-      by-sound m e l i true = still
-      by-sound m e l i false = h (energy (get keptEx share)) m e l i
+          (heard (energy (get kept_ex share)) (spoken share hearing.index spectrum logs model m)))
+      by_sound m e l i true = still
+      by_sound m e l i false = h (energy (get kept_ex share)) m e l i
 
       by_count : (t : Bool) (f : Effect Reply) → P f → P (cond t f (refusal (Refused 8) share))
       by_count true f k = k
       by_count false f k = bad 8
 
-      by-model : length share ≡ PART → hearing.index ≤ 7 → (r : Reading) → read_of model ≡ r
+      by_model : length share ≡ PART → hearing.index ≤ 7 → (r : Reading) → read_of model ≡ r
           → P (modelled (counted hearing) r share (done3 share hearing.index spectrum logs model))
-      by-model l i (Unread n k) e = misread n k (sym e)
-      by-model l i (Good m) e =
+      by_model l i (Unread n k) e = misread n k (sym e)
+      by_model l i (Good m) e =
           by_count (counted hearing m) (done3 share hearing.index spectrum logs model m)
-          (by-sound m e l i (isSilent (energy (get keptEx share))))
+          (by_sound m e l i (is_silent (energy (get kept_ex share))))
 
-  pub call4-by : (inverse : List Float) (out : ℕ) → (length share ≡ PART → P (done4 share inverse))
+  pub call4_by : (inverse : List Float) (out : ℕ) → (length share ≡ PART → P (done4 share inverse))
       → P (call4 share inverse out)
   unfolding call4
-  call4-by inverse out h =
-      by-table ((length share, PART) ∷ (length inverse, 960) ∷ (out, 480) ∷ []) [] (done4 share inverse) tt
+  call4_by inverse out h =
+      by_table ((length share, PART) ∷ (length inverse, 960) ∷ (out, 480) ∷ []) [] (done4 share inverse) tt
       (λ r _. h r.0)

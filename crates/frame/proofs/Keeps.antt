@@ -12,8 +12,8 @@ use Rattle.frame.specs.Reply.{passed}
 use Rattle.frame.specs.Share.{PART}
 use Rattle.frame.specs.Heard.{spoken}
 use Rattle.frame.specs.Frame.{done1, call1, done2, call2, heard, call3, done4, call4}
-use Rattle.frame.proofs.Beside.{Beside, done1-beside, done2-beside, done3-beside, done4-beside}
-use Rattle.frame.proofs.Cases.{call1-by, call2-by, call3-by, call4-by}
+use Rattle.frame.proofs.Beside.{Beside, done1_beside, done2_beside, done3_beside, done4_beside}
+use Rattle.frame.proofs.Cases.{call1_by, call2_by, call3_by, call4_by}
 
 pub record Keeps (share : List Float) (f : Effect Reply) : Type 0 where
   pub size : length f.kept ≡ length share
@@ -35,30 +35,30 @@ module _ (share : List Float) where
   bad : (n : ℕ) → Keeps share (record { answer = Refused n; kept = share; written = [] })
   bad n = unmoved (Refused n) _
 
-  pub call1-keeps : (samples : List Float) (window : ℕ) → Keeps share (call1 share samples window)
-  call1-keeps samples window =
-      call1-by share (Keeps share) bad samples window
+  pub call1_keeps : (samples : List Float) (window : ℕ) → Keeps share (call1 share samples window)
+  call1_keeps samples window =
+      call1_by share (Keeps share) bad samples window
       (λ whole l. moved (done1 share samples) refl whole
-      (done1-beside end share samples (inl (omega arith), (inl (omega arith), tt)) whole l))
+      (done1_beside end share samples (inl (omega arith), (inl (omega arith), tt)) whole l))
 
-  pub call2-keeps : (spectrum : List Float) (lag window sums : ℕ) → Keeps share (call2 share spectrum lag window sums)
-  call2-keeps spectrum lag window sums =
-      call2-by share (Keeps share) bad spectrum lag window sums
+  pub call2_keeps : (spectrum : List Float) (lag window sums : ℕ) → Keeps share (call2 share spectrum lag window sums)
+  call2_keeps spectrum lag window sums =
+      call2_by share (Keeps share) bad spectrum lag window sums
       (λ whole. moved (done2 share spectrum lag) refl whole
-      (done2-beside end share spectrum lag (inl (omega arith), (inl (omega arith), (inl (omega arith), tt))) whole))
+      (done2_beside end share spectrum lag (inl (omega arith), (inl (omega arith), (inl (omega arith), tt))) whole))
 
-  pub call3-keeps : (hearing : Hearing) (spectrum logs : List Float) (model : List ℕ) (out : ℕ)
+  pub call3_keeps : (hearing : Hearing) (spectrum logs : List Float) (model : List ℕ) (out : ℕ)
       → Keeps share (call3 share hearing spectrum logs model out)
-  call3-keeps hearing spectrum logs model out =
-      call3-by share (Keeps share) bad hearing spectrum logs model out (λ n l _. unmoved (Misread n l) _)
+  call3_keeps hearing spectrum logs model out =
+      call3_by share (Keeps share) bad hearing spectrum logs model out (λ n l _. unmoved (Misread n l) _)
       (unmoved Silent _)
       (λ e m good whole inside.
       moved (heard e (spoken share hearing.index spectrum logs model m)) refl whole
-      (done3-beside end share hearing.index spectrum logs model m
+      (done3_beside end share hearing.index spectrum logs model m
       (inl (omega arith), (inl (omega arith), (inl (omega arith), (inl (omega arith), (inl (omega arith), tt))))) good
       whole inside))
 
-  pub call4-keeps : (inverse : List Float) (out : ℕ) → Keeps share (call4 share inverse out)
-  call4-keeps inverse out =
-      call4-by share (Keeps share) bad inverse out
-      (λ whole. moved (done4 share inverse) refl whole (done4-beside end share inverse (inl (omega arith), tt) whole))
+  pub call4_keeps : (inverse : List Float) (out : ℕ) → Keeps share (call4 share inverse out)
+  call4_keeps inverse out =
+      call4_by share (Keeps share) bad inverse out
+      (λ whole. moved (done4 share inverse) refl whole (done4_beside end share inverse (inl (omega arith), tt) whole))

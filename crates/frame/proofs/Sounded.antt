@@ -2,16 +2,16 @@
 use Rattle.rules.proofs.Common.{ℕ, Bool, true, false, cond, true≢false, false≢true, List, [], ◌∷◌, ◌≡◌, refl, sym, ap}
 use Rattle.rules.proofs.Common.{◌∙◌, Float}
 use Rattle.rules.specs.Place.{get}
-use Rattle.features.specs.Silence.{energy, isSilent, soundOf}
+use Rattle.features.specs.Silence.{energy, is_silent, sound_of}
 use Rattle.features.specs.declared.Sound.{Sound}
 use Rattle.features.specs.declared.Sound.TheVariants as sound
 use Rattle.model.specs.declared.Model.{Model}
 use Rattle.frame.specs.declared.Reply.TheVariants.{Silent}
-use Rattle.frame.specs.Share.{keptX, keptEx}
+use Rattle.frame.specs.Share.{kept_x, kept_ex}
 use Rattle.frame.specs.Heard.{Spoken, spoken}
 use Rattle.frame.specs.Effect.{Worked}
 use Rattle.frame.specs.Frame.{silent, heard, done3}
-use Rattle.frame.specs.Private.{spokenAs, quiet, replyOf}
+use Rattle.frame.specs.Private.{spoken_as, quiet, reply_of}
 
 module _ (share : List Float) (index : ℕ) (spectrum logs : List Float) (bytes : List ℕ) (m : Model)
     (held : List Float) where
@@ -19,26 +19,26 @@ module _ (share : List Float) (index : ℕ) (spectrum logs : List Float) (bytes 
   whole = spoken share index spectrum logs bytes m
 
   abbrev sum : Float
-  sum = energy (get keptEx share)
+  sum = energy (get kept_ex share)
 
-  pub is-silent : {s : Sound} {out : List Float} → s ≡ soundOf sum → quiet s ≡ true → out ≡ get keptX share
+  pub is_silent_lem : {s : Sound} {out : List Float} → s ≡ sound_of sum → quiet s ≡ true → out ≡ get kept_x share
       → Worked (done3 share index spectrum logs bytes m) Silent share (held ∷ []) (out ∷ [])
-  unfolding done3 soundOf
-  is-silent {s} {out} e q x = go (isSilent sum) e
+  unfolding done3 sound_of
+  is_silent_lem {s} {out} e q x = go (is_silent sum) e
     where
       go : (t : Bool) → s ≡ cond t sound.Silent (sound.Heard sum)
           → Worked (cond t (silent share) (heard sum whole)) Silent share (held ∷ []) (out ∷ [])
       go true h = record { answers = refl; keeps = refl; writes = ap (λ (l : List Float). l ∷ []) x }
       go false h = absurd (false≢true (ap quiet (sym h) ∙ q))
 
-  pub is-heard : {s : Sound} {after out : List Float} {voice : Float} → s ≡ soundOf sum → quiet s ≡ false
-      → spokenAs after voice out ≡ whole
-      → Worked (done3 share index spectrum logs bytes m) (replyOf s voice) after (held ∷ []) (out ∷ [])
-  unfolding done3 soundOf
-  is-heard {s} {after} {out} {voice} e q x = rw (← x) (go (isSilent sum) e)
+  pub is_heard_lem : {s : Sound} {after out : List Float} {voice : Float} → s ≡ sound_of sum → quiet s ≡ false
+      → spoken_as after voice out ≡ whole
+      → Worked (done3 share index spectrum logs bytes m) (reply_of s voice) after (held ∷ []) (out ∷ [])
+  unfolding done3 sound_of
+  is_heard_lem {s} {after} {out} {voice} e q x = rw (← x) (go (is_silent sum) e)
     where
       go : (t : Bool) → s ≡ cond t sound.Silent (sound.Heard sum)
-          → Worked (cond t (silent share) (heard sum (spokenAs after voice out))) (replyOf s voice) after (held ∷ [])
+          → Worked (cond t (silent share) (heard sum (spoken_as after voice out))) (reply_of s voice) after (held ∷ [])
           (out ∷ [])
       go true h = absurd (true≢false (ap quiet (sym h) ∙ q))
       go false h = rw h (record { answers = refl; keeps = refl; writes = refl })

@@ -4,31 +4,31 @@ use Rattle.rules.proofs.Common.{Float}
 use Rattle.frame.specs.declared.Reply.{Reply}
 use Rattle.frame.specs.declared.Reply.TheVariants.{Done, Refused}
 use Rattle.frame.specs.Effect.{Effect, refusal, unless}
-use Rattle.frame.specs.Reply.{passed, ◌refusedIf◌, firstRefusal}
+use Rattle.frame.specs.Reply.{passed, ◌refusedIf◌, first_refusal}
 
 -- no row refuses
 abbrev pub Clear : List Reply → Type 0
 Clear [] = Unit
 Clear (row ∷ rows) = (passed row ≡ true) × Clear rows
 
-pub clear : (rows : List Reply) → Clear rows → firstRefusal rows ≡ Done
+pub clear : (rows : List Reply) → Clear rows → first_refusal rows ≡ Done
 clear [] h = refl
 clear (row ∷ rows) h = rw h.0 (clear rows h.1)
 
 -- where the first is no refusal, no row refuses
-pub cleared : (rows : List Reply) → passed (firstRefusal rows) ≡ true → Clear rows
+pub cleared : (rows : List Reply) → passed (first_refusal rows) ≡ true → Clear rows
 cleared [] h = tt
 cleared (row ∷ rows) h = go (cleared rows) (passed row) refl h
   where
-    go : (passed (firstRefusal rows) ≡ true → Clear rows) → (t : Bool) → passed row ≡ t
-        → passed (cond t (firstRefusal rows) row) ≡ true → Clear (row ∷ rows)
+    go : (passed (first_refusal rows) ≡ true → Clear rows) → (t : Bool) → passed row ≡ t
+        → passed (cond t (first_refusal rows) row) ≡ true → Clear (row ∷ rows)
     go more true e k = (e, more k)
     go more false e k = absurd (false≢true (sym e ∙ k))
 
 -- a row of a number and a test
-pub not-when : (n : ℕ) (t : Bool) → passed (n refusedIf t) ≡ true → t ≡ false
-not-when n true h = absurd (false≢true h)
-not-when n false h = refl
+pub not_when : (n : ℕ) (t : Bool) → passed (n refusedIf t) ≡ true → t ≡ false
+not_when n true h = absurd (false≢true h)
+not_when n false h = refl
 
 module _ (P : Reply → Type 0) where
   -- of each row that refuses
@@ -40,41 +40,41 @@ module _ (P : Reply → Type 0) where
   by_number bad n true h = bad n
   by_number bad n false h = absurd (true≢false h)
 
-  pub first-refusal : (rows : List Reply) → Each rows → passed (firstRefusal rows) ≡ false → P (firstRefusal rows)
-  first-refusal [] bad h = absurd (true≢false h)
-  first-refusal (row ∷ rows) bad h = go (first-refusal rows bad.1) (passed row) refl h
+  pub first_refusal_lem : (rows : List Reply) → Each rows → passed (first_refusal rows) ≡ false → P (first_refusal rows)
+  first_refusal_lem [] bad h = absurd (true≢false h)
+  first_refusal_lem (row ∷ rows) bad h = go (first_refusal_lem rows bad.1) (passed row) refl h
     where
-      go : (passed (firstRefusal rows) ≡ false → P (firstRefusal rows)) → (t : Bool) → passed row ≡ t
-          → passed (cond t (firstRefusal rows) row) ≡ false → P (cond t (firstRefusal rows) row)
+      go : (passed (first_refusal rows) ≡ false → P (first_refusal rows)) → (t : Bool) → passed row ≡ t
+          → passed (cond t (first_refusal rows) row) ≡ false → P (cond t (first_refusal rows) row)
       go more true e k = more k
       go more false e k = bad.0 e
 
   -- what holds of each row's refusal, and of Done where no row refuses, holds of the first
-  pub by-each : (rows : List Reply) → Each rows → (Clear rows → P Done) → P (firstRefusal rows)
-  by-each rows bad good = go (passed (firstRefusal rows)) refl
+  pub by_each : (rows : List Reply) → Each rows → (Clear rows → P Done) → P (first_refusal rows)
+  by_each rows bad good = go (passed (first_refusal rows)) refl
     where
-      go : (t : Bool) → passed (firstRefusal rows) ≡ t → P (firstRefusal rows)
+      go : (t : Bool) → passed (first_refusal rows) ≡ t → P (first_refusal rows)
       go true e = rw (clear rows (cleared rows e)) (good (cleared rows e))
-      go false e = first-refusal rows bad e
+      go false e = first_refusal_lem rows bad e
 
 -- the same of a call
 module _ (share : List Float) (f : Effect Reply) where
   pub by_rows : (P : Effect Reply → Type 0) (rows : List Reply) → Each (λ reply. P (refusal reply share)) rows
       → (Clear rows → P f)
       → P (unless rows share f)
-  by_rows P rows bad good = go (passed (firstRefusal rows)) refl
+  by_rows P rows bad good = go (passed (first_refusal rows)) refl
     where
-      go : (t : Bool) → passed (firstRefusal rows) ≡ t → P (cond t f (refusal (firstRefusal rows) share))
+      go : (t : Bool) → passed (first_refusal rows) ≡ t → P (cond t f (refusal (first_refusal rows) share))
       go true e = good (cleared rows e)
-      go false e = first-refusal (λ reply. P (refusal reply share)) rows bad e
+      go false e = first_refusal_lem (λ reply. P (refusal reply share)) rows bad e
 
   -- of a call that is accepted
-  pub by-accepted : (Q : Effect Reply → Type 0) (rows : List Reply) → (Clear rows → passed f.answer ≡ true → Q f)
+  pub by_accepted : (Q : Effect Reply → Type 0) (rows : List Reply) → (Clear rows → passed f.answer ≡ true → Q f)
       → passed (unless rows share f).answer ≡ true → Q (unless rows share f)
-  by-accepted Q rows h = go (passed (firstRefusal rows)) refl
+  by_accepted Q rows h = go (passed (first_refusal rows)) refl
     where
-      go : (t : Bool) → passed (firstRefusal rows) ≡ t
-          → passed (cond t f (refusal (firstRefusal rows) share)).answer ≡ true
-          → Q (cond t f (refusal (firstRefusal rows) share))
+      go : (t : Bool) → passed (first_refusal rows) ≡ t
+          → passed (cond t f (refusal (first_refusal rows) share)).answer ≡ true
+          → Q (cond t f (refusal (first_refusal rows) share))
       go true e p = h (cleared rows e) p
       go false e p = absurd (false≢true (sym e ∙ p))

@@ -1,7 +1,7 @@
 -- What a call gives, and what a contract says about it.
 use Rattle.rules.specs.Common.{ℕ, cond, List, [], ◌≡◌, length, drop, Float}
 use Rattle.frame.specs.Written.{Written, onto, fronts}
-use Rattle.frame.specs.Reply.{passed, firstRefusal}
+use Rattle.frame.specs.Reply.{passed, first_refusal}
 use Rattle.frame.specs.declared.Reply.{Reply}
 
 -- The outcome of a call: its answer, the share or store that it leaves, and what it writes to each answer
@@ -17,7 +17,7 @@ refusal answer kept = record { answer = answer; kept = kept; written = [] }
 
 -- The first refusal of the table; if there is none, the outcome f.
 abbrev pub unless : List Reply → List Float → Effect Reply → Effect Reply
-unless rows share f = let reply = firstRefusal rows in cond (passed reply) f (refusal reply share)
+unless rows share f = let reply = first_refusal rows in cond (passed reply) f (refusal reply share)
 
 -- What a contract says about a call: it answers, leaves and writes what f says. `held` is what the answer
 -- buffers held before.

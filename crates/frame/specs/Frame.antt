@@ -8,17 +8,17 @@ pub use Rattle.rules.specs.Refusals.{wrong}
 use Rattle.rules.specs.Tab.{tab}
 use Rattle.frame.specs.Written.{all}
 use Rattle.samples.specs.Samples.{good}
-use Rattle.numbers.specs.Filter.{highPass, memoryOf, memoryList, memoryAfter, outputs}
+use Rattle.numbers.specs.Filter.{high_pass, memory_of, memory_list, memory_after, outputs}
 use Rattle.bands.specs.Windowed.{windowed}
 use Rattle.model.specs.Model.{read_of}
 use Rattle.model.specs.declared.Model.{Model}
 use Rattle.model.specs.declared.Reading.{Reading}
 use Rattle.model.specs.declared.Reading.TheVariants.{Good, Refused as Unread}
-use Rattle.features.specs.Silence.{energy, isSilent}
+use Rattle.features.specs.Silence.{energy, is_silent}
 use Rattle.frame.specs.Effect.{Effect, refusal, unless}
 use Rattle.frame.specs.Reply.{◌refusedIf◌}
 pub use Rattle.frame.specs.Share.{PART}
-use Rattle.frame.specs.Share.{inputMem, synthesisMem, keptX, keptEx, keptLag, memHpX}
+use Rattle.frame.specs.Share.{input_mem, synthesis_mem, kept_x, kept_ex, kept_lag, mem_hp_x}
 use Rattle.frame.specs.Heard.{scaled, energies, Spoken, spoken}
 use Rattle.frame.specs.declared.Hearing.{Hearing}
 use Rattle.frame.specs.declared.Reply.{Reply}
@@ -37,11 +37,11 @@ recent lag = record { at = 768 - lag; size = 960 }
 -- What call 1 does if it is not refused. done2, done3 and done4 are the same for the other calls.
 abbrev pub done1 : List Float → List Float → Effect Reply
 done1 share samples =
-    let memory = memoryOf (get memHpX share) in
-    let mem = shifted (get inputMem share) (outputs highPass memory samples) in
+    let memory = memory_of (get mem_hp_x share) in
+    let mem = shifted (get input_mem share) (outputs high_pass memory samples) in
     record {
       answer = Done;
-      kept = put memHpX (put inputMem share mem) (memoryList (memoryAfter highPass memory samples));
+      kept = put mem_hp_x (put input_mem share mem) (memory_list (memory_after high_pass memory samples));
       written = all (windowed (get (recent 0) mem)) ∷ [];
     }
 
@@ -56,20 +56,20 @@ call1 share samples window =
 -- ---- call 2, from `transform_input` and `compute_frame_features`
 
 -- Rust: 1e-2 + self.ex[i]
-unfoldable pub plusHundredth : List Float → List Float
-plusHundredth ex = tab 22 (λ i. f32 0x3C23D70A ⊕ at ex i)
+unfoldable pub plus_hundredth : List Float → List Float
+plus_hundredth ex = tab 22 (λ i. f32 0x3C23D70A ⊕ at ex i)
 
 -- x, ex and the lag are kept in the share, for call 3.
-unfoldable pub putKept : List Float → List Float → ℕ → List Float
-putKept share spectrum lag =
-    put keptLag (put keptEx (put keptX share (scaled spectrum)) (energies spectrum)) (of_int binary32 (pos lag) ∷ [])
+unfoldable pub put_kept : List Float → List Float → ℕ → List Float
+put_kept share spectrum lag =
+    put kept_lag (put kept_ex (put kept_x share (scaled spectrum)) (energies spectrum)) (of_int binary32 (pos lag) ∷ [])
 
 abbrev pub done2 : List Float → List Float → ℕ → Effect Reply
 done2 share spectrum lag =
     record {
       answer = Done;
-      kept = putKept share spectrum lag;
-      written = all (windowed (get (recent lag) (get inputMem share))) ∷ all (plusHundredth (energies spectrum)) ∷ [];
+      kept = put_kept share spectrum lag;
+      written = all (windowed (get (recent lag) (get input_mem share))) ∷ all (plus_hundredth (energies spectrum)) ∷ [];
     }
 
 unfoldable pub call2 : List Float → List Float → ℕ → ℕ → ℕ → Effect Reply
@@ -83,7 +83,7 @@ call2 share spectrum lag window sums =
 
 -- A silent frame writes the first spectrum and changes nothing.
 abbrev pub silent : List Float → Effect Reply
-silent share = record { answer = Silent; kept = share; written = all (get keptX share) ∷ [] }
+silent share = record { answer = Silent; kept = share; written = all (get kept_x share) ∷ [] }
 
 abbrev pub heard : Float → Spoken → Effect Reply
 heard e s = record { answer = Heard s.voice e; kept = s.share; written = all s.spectrum ∷ [] }
@@ -91,8 +91,8 @@ heard e s = record { answer = Heard s.voice e; kept = s.share; written = all s.s
 -- The sum of the band energies decides whether a frame is silent.
 unfoldable pub done3 : List Float → ℕ → List Float → List Float → List ℕ → Model → Effect Reply
 done3 share index spectrum logs bytes m =
-    let e = energy (get keptEx share) in
-    cond (isSilent e) (silent share) (heard e (spoken share index spectrum logs bytes m))
+    let e = energy (get kept_ex share) in
+    cond (is_silent e) (silent share) (heard e (spoken share index spectrum logs bytes m))
 
 -- Whether the model has the GRU sizes that the opening noted.
 abbrev pub counted : Hearing → Model → Bool
@@ -122,24 +122,24 @@ call3 share hearing spectrum logs model out =
 -- ---- call 4, from `frame_synthesis` of features.rs
 
 -- Rust: *x /= 2.0; then `apply_window_in_place`
-unfoldable pub windowBuf : List Float → List Float
-windowBuf inverse = windowed (tab 960 (λ i. at inverse i ⊘ f32 0x40000000))
+unfoldable pub window_buf : List Float → List Float
+window_buf inverse = windowed (tab 960 (λ i. at inverse i ⊘ f32 0x40000000))
 
 -- Rust: out[i] = self.window_buf[i] + self.synthesis_mem[i]
 unfoldable pub overlapped : List Float → List Float → List Float
 overlapped buf mem = tab 480 (λ i. at buf i ⊕ at mem i)
 
 -- Rust: self.synthesis_mem[i] = self.window_buf[FRAME_SIZE + i]
-unfoldable pub laterHalf : List Float → List Float
-laterHalf buf = tab 480 (λ i. at buf (480 + i))
+unfoldable pub later_half : List Float → List Float
+later_half buf = tab 480 (λ i. at buf (480 + i))
 
 abbrev pub done4 : List Float → List Float → Effect Reply
 done4 share inverse =
-    let buf = windowBuf inverse in
+    let buf = window_buf inverse in
     record {
       answer = Done;
-      kept = put synthesisMem share (laterHalf buf);
-      written = all (overlapped buf (get synthesisMem share)) ∷ [];
+      kept = put synthesis_mem share (later_half buf);
+      written = all (overlapped buf (get synthesis_mem share)) ∷ [];
     }
 
 unfoldable pub call4 : List Float → List Float → ℕ → Effect Reply

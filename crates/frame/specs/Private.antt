@@ -13,21 +13,21 @@ use Rattle.frame.specs.declared.Reply.TheVariants.{Silent, Heard, Refused}
 abbrev pub Reads : List ℕ → (Model → Type 0) → Type 0
 Reads bytes P = (m : Model) → read_of bytes ≡ Good m → P m
 
-abbrev pub featuredAs : List Float → List Float → List Float → Featured
-featuredAs share features exp = record { share = share; features = features; exp = exp }
+abbrev pub featured_as : List Float → List Float → List Float → Featured
+featured_as share features exp = record { share = share; features = features; exp = exp }
 
-abbrev pub rnnAs : List Float → List Float → Float → Rnn
-rnnAs share gains voice = record { share = share; gains = gains; voice = voice }
+abbrev pub rnn_as : List Float → List Float → Float → Rnn
+rnn_as share gains voice = record { share = share; gains = gains; voice = voice }
 
-abbrev pub spokenAs : List Float → Float → List Float → Spoken
-spokenAs share voice spectrum = record { share = share; voice = voice; spectrum = spectrum }
+abbrev pub spoken_as : List Float → Float → List Float → Spoken
+spoken_as share voice spectrum = record { share = share; voice = voice; spectrum = spectrum }
 
 abbrev pub quiet : Sound → Bool
 quiet sound.Silent = true
 quiet (sound.Heard e) = false
 quiet (sound.Refused n) = false
 
-abbrev pub replyOf : Sound → Float → Reply
-replyOf sound.Silent voice = Silent
-replyOf (sound.Heard e) voice = Heard voice e
-replyOf (sound.Refused n) voice = Refused n
+abbrev pub reply_of : Sound → Float → Reply
+reply_of sound.Silent voice = Silent
+reply_of (sound.Heard e) voice = Heard voice e
+reply_of (sound.Refused n) voice = Refused n

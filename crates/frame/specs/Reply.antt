@@ -13,17 +13,17 @@ passed (Refused n) = false
 passed (Misread n l) = false
 
 -- Whether a reply is that of a call 3 that heard something.
-abbrev pub isHeard : Reply → Bool
-isHeard (Heard v e) = true
-isHeard Done = false
-isHeard Silent = false
-isHeard (Numbered f h) = false
-isHeard (Refused n) = false
-isHeard (Misread n l) = false
+abbrev pub is_heard : Reply → Bool
+is_heard (Heard v e) = true
+is_heard Done = false
+is_heard Silent = false
+is_heard (Numbered f h) = false
+is_heard (Refused n) = false
+is_heard (Misread n l) = false
 
 -- The next number of a frame or of a heard frame: 0 follows 4,294,967,295.
-abbrev pub oneMore : ℕ → ℕ
-oneMore number = cond (ltb number 4294967295) (number + 1) 0
+abbrev pub one_more : ℕ → ℕ
+one_more number = cond (ltb number 4294967295) (number + 1) 0
 
 -- A table of refusals for a call is a list of replies, tried in order. A row refuses, or is Done. This row is
 -- a number and the test for it.
@@ -32,6 +32,6 @@ abbrev pub ◌refusedIf◌ : ℕ → Bool → Reply
 n refusedIf t = cond t (Refused n) Done
 
 -- The first reply that refuses; if there is none, Done.
-abbrev pub firstRefusal : List Reply → Reply
-firstRefusal [] = Done
-firstRefusal (row ∷ rows) = cond (passed row) (firstRefusal rows) row
+abbrev pub first_refusal : List Reply → Reply
+first_refusal [] = Done
+first_refusal (row ∷ rows) = cond (passed row) (first_refusal rows) row

@@ -15,18 +15,18 @@ nothing = from 0 []
 
 -- The floats that are written, the whole numbers that are written, and the floats that a call writes to its
 -- first buffer.
-abbrev pub numbersIn : Written → List Float
-numbersIn (all numbers) = numbers
-numbersIn (from at numbers) = numbers
-numbersIn (front wholes) = []
+abbrev pub numbers_in : Written → List Float
+numbers_in (all numbers) = numbers
+numbers_in (from at numbers) = numbers
+numbers_in (front wholes) = []
 
-abbrev pub wholesIn : Written → List ℕ
-wholesIn (all numbers) = []
-wholesIn (from at numbers) = []
-wholesIn (front wholes) = wholes
+abbrev pub wholes_in : Written → List ℕ
+wholes_in (all numbers) = []
+wholes_in (from at numbers) = []
+wholes_in (front wholes) = wholes
 
-abbrev pub firstIn : List Written → List Float
-firstIn ws = numbersIn (get_or ws 0 nothing)
+abbrev pub first_in : List Written → List Float
+first_in ws = numbers_in (get_or ws 0 nothing)
 
 -- A buffer of floats after the call, if it held `held` before.
 abbrev pub over : Written → List Float → List Float
@@ -41,10 +41,10 @@ onto (w ∷ ws) [] = []
 onto (w ∷ ws) (h ∷ hs) = over w h ∷ onto ws hs
 
 -- A buffer of whole numbers after the call, and all buffers of whole numbers that it was lent, in order.
-abbrev pub atFront : List ℕ → List ℕ → List ℕ
-atFront new held = new ++ drop (length new) held
+abbrev pub at_front : List ℕ → List ℕ → List ℕ
+at_front new held = new ++ drop (length new) held
 
 abbrev pub fronts : List Written → List (List ℕ) → List (List ℕ)
 fronts [] held = held
 fronts (w ∷ ws) [] = []
-fronts (w ∷ ws) (h ∷ hs) = atFront (wholesIn w) h ∷ fronts ws hs
+fronts (w ∷ ws) (h ∷ hs) = at_front (wholes_in w) h ∷ fronts ws hs

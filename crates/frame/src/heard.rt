@@ -2,14 +2,14 @@
 ghost use Rattle.std.specs.Prelude.{◌≡◌, [], ◌∷◌, ◌≤◌, length};
 ghost use Rattle.rules.specs.F32.{at};
 ghost use Rattle.rules.specs.Place.{get, put};
-ghost use Rattle.bands.specs.Bands.{bandGain};
+ghost use Rattle.bands.specs.Bands.{band_gain};
 ghost use Rattle.model.specs.Model.{read_of};
-ghost use Rattle.features.specs.Pitch.{pitchFiltered, applied};
-ghost use Rattle.frame.specs.Share.{keptX, keptEx, lastg};
-ghost use Rattle.frame.specs.Heard.{energies, featured, rnnOf, heldGains, spokenFrom, spoken};
+ghost use Rattle.features.specs.Pitch.{pitch_filtered, applied};
+ghost use Rattle.frame.specs.Share.{kept_x, kept_ex, lastg};
+ghost use Rattle.frame.specs.Heard.{energies, featured, rnn_of, held_gains, spoken_from, spoken};
 ghost use Rattle.frame.specs.Effect.{Worked};
 ghost use Rattle.frame.specs.Frame.{done3, counted, checked};
-ghost use Rattle.frame.specs.Private.{Reads, featuredAs, rnnAs, spokenAs, quiet, replyOf};
+ghost use Rattle.frame.specs.Private.{Reads, featured_as, rnn_as, spoken_as, quiet, reply_of};
 
 use crate::{Hearing, Reply};
 use features::Sound;
@@ -57,8 +57,8 @@ fn compute_features(
 )
     requires share_len { (length share.old ≡ 3778) × (length features.old ≡ 42) × (length exp.old ≡ 22) × (index ≤ 7) }
     requires p_len { (length p.now ≡ 961) × (length ep.now ≡ 22) × (length logs.now ≡ 22) }
-    requires x_value { (x.now ≡ get keptX share.old) × (ex.now ≡ get keptEx share.old) }
-    ensures { featuredAs share.new features.new exp.new
+    requires x_value { (x.now ≡ get kept_x share.old) × (ex.now ≡ get kept_ex share.old) }
+    ensures { featured_as share.new features.new exp.new
         ≡ featured share.old index p.now ep.now logs.now }
 {
     let lag = share[3191];
@@ -80,8 +80,8 @@ fn compute_features(
 fn compute_rnn(share: &mut [f32], gains: &mut [f32], model: &[u8], features: &[f32]) -> f32
     requires { (length share.old ≡ 3778) × (length gains.old ≡ 22) × (length features.now ≡ 42) }
     ensures { Reads model.now
-        (λ m. rnnAs share.new gains.new result
-        ≡ rnnOf share.old features.now model.now m) }
+        (λ m. rnn_as share.new gains.new result
+        ≡ rnn_of share.old features.now model.now m) }
 {
     let mut voice = [0.0f32; 1];
     network::compute_on(gains, &mut voice, &mut share[3392..3776], model, features);
@@ -90,7 +90,7 @@ fn compute_rnn(share: &mut [f32], gains: &mut [f32], model: &[u8], features: &[f
 
 fn apply_in(out: &mut [f32], gf: &mut [f32], gains: &[f32])
     requires { (length out.old ≡ 961) × (length gf.old ≡ 481) × (length gains.now ≡ 22) }
-    ensures { out.new ≡ applied out.old (bandGain gains.now) }
+    ensures { out.new ≡ applied out.old (band_gain gains.now) }
 {
     bands::interp_band_gain(gf, gains);
     features::apply_gains(out, gf);
@@ -98,7 +98,7 @@ fn apply_in(out: &mut [f32], gf: &mut [f32], gains: &[f32])
 
 fn apply(out: &mut [f32], gains: &[f32])
     requires { (length out.old ≡ 961) × (length gains.now ≡ 22) }
-    ensures { out.new ≡ applied out.old (bandGain gains.now) }
+    ensures { out.new ≡ applied out.old (band_gain gains.now) }
 {
     let mut gf = [0.0f32; 481];
     apply_in(out, &mut gf, gains);
@@ -108,9 +108,9 @@ fn apply(out: &mut [f32], gains: &[f32])
 fn apply_gain(share: &mut [f32], out: &mut [f32], gains: &mut [f32])
     requires { (length share.old ≡ 3778) × (length out.old ≡ 961) × (length gains.old ≡ 22) }
     ensures share_after { share.new
-        ≡ put lastg share.old (heldGains share.old gains.old) }
+        ≡ put lastg share.old (held_gains share.old gains.old) }
     ensures out_after { out.new
-        ≡ applied out.old (bandGain (heldGains share.old gains.old)) }
+        ≡ applied out.old (band_gain (held_gains share.old gains.old)) }
 {
     features::hold_gains(gains, &mut share[3194..3216]);
     apply(out, gains);
@@ -129,12 +129,12 @@ fn filter_and_apply_gain(
     requires share_len { (length share.old ≡ 3778) × (length out.old ≡ 961) × (length gains.old ≡ 22) }
     requires p_len { (length p.now ≡ 961) × (length exp.now ≡ 22) × (length ex.now ≡ 22) × (length ep.now ≡ 22) }
     ensures share_after { share.new
-        ≡ put lastg share.old (heldGains share.old gains.old) }
+        ≡ put lastg share.old (held_gains share.old gains.old) }
     ensures out_after { out.new
         ≡ applied
-        (pitchFiltered out.old p.now gains.old exp.now ex.now
+        (pitch_filtered out.old p.now gains.old exp.now ex.now
         ep.now)
-        (bandGain (heldGains share.old gains.old)) }
+        (band_gain (held_gains share.old gains.old)) }
 {
     features::pitch_filter(out, p, gains, exp, ex, ep);
     apply_gain(share, out, gains);
@@ -156,9 +156,9 @@ fn process_heard_in(
     requires share_len { (length share.old ≡ 3778) × (length features.old ≡ 42) × (length exp.old ≡ 22)
         × (length gains.old ≡ 22) × (index ≤ 7) }
     requires p_len { (length p.now ≡ 961) × (length ep.now ≡ 22) × (length logs.now ≡ 22) }
-    requires out_value { (out.old ≡ get keptX share.old) × (ex.now ≡ get keptEx share.old) }
-    ensures { Reads model.now (λ m. spokenAs share.new result out.new
-        ≡ spokenFrom share.old index p.now ep.now logs.now
+    requires out_value { (out.old ≡ get kept_x share.old) × (ex.now ≡ get kept_ex share.old) }
+    ensures { Reads model.now (λ m. spoken_as share.new result out.new
+        ≡ spoken_from share.old index p.now ep.now logs.now
         model.now m) }
 {
     compute_features(share, features, exp, index, out, p, ex, ep, logs);
@@ -181,9 +181,9 @@ fn process_heard(
 ) -> f32
     requires share_len { (length share.old ≡ 3778) × (index ≤ 7) × (length p.now ≡ 961) × (length ep.now ≡ 22)
         × (length logs.now ≡ 22) }
-    requires out_value { (out.old ≡ get keptX share.old) × (ex.now ≡ get keptEx share.old) }
-    ensures { Reads model.now (λ m. spokenAs share.new result out.new
-        ≡ spokenFrom share.old index p.now ep.now logs.now
+    requires out_value { (out.old ≡ get kept_x share.old) × (ex.now ≡ get kept_ex share.old) }
+    ensures { Reads model.now (λ m. spoken_as share.new result out.new
+        ≡ spoken_from share.old index p.now ep.now logs.now
         model.now m) }
 {
     let mut features = [0.0f32; 42];
@@ -215,10 +215,10 @@ fn hear_in(
     logs: &[f32],
     model: &[u8],
 ) -> f32
-    requires share_len { (length share.old ≡ 3778) × (out.old ≡ get keptX share.old) × (index ≤ 7)
+    requires share_len { (length share.old ≡ 3778) × (out.old ≡ get kept_x share.old) × (index ≤ 7)
         × (length spectrum.now ≡ 961) × (length logs.now ≡ 22) }
     requires p_len { (length p.old ≡ 961) × (length ex.old ≡ 22) × (length ep.old ≡ 22) }
-    ensures { Reads model.now (λ m. spokenAs share.new result out.new
+    ensures { Reads model.now (λ m. spoken_as share.new result out.new
         ≡ spoken share.old index spectrum.now logs.now model.now m) }
 {
     rules::copy(ex, &share[3169..3191]);
@@ -235,9 +235,9 @@ fn hear(
     logs: &[f32],
     model: &[u8],
 ) -> f32
-    requires { (length share.old ≡ 3778) × (out.old ≡ get keptX share.old) × (index ≤ 7)
+    requires { (length share.old ≡ 3778) × (out.old ≡ get kept_x share.old) × (index ≤ 7)
         × (length spectrum.now ≡ 961) × (length logs.now ≡ 22) }
-    ensures { Reads model.now (λ m. spokenAs share.new result out.new
+    ensures { Reads model.now (λ m. spoken_as share.new result out.new
         ≡ spoken share.old index spectrum.now logs.now model.now m) }
 {
     let mut p = [0.0f32; 961];
@@ -259,7 +259,7 @@ fn is_quiet(sound: Sound) -> bool
 }
 
 fn reply_of(sound: Sound, voice: f32) -> Reply
-    ensures { result ≡ replyOf sound voice }
+    ensures { result ≡ reply_of sound voice }
 {
     match sound {
         Sound::Silent => Reply::Silent,

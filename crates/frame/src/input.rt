@@ -3,7 +3,7 @@ ghost use Rattle.std.specs.Prelude.{◌≡◌, ◌+◌, length, take};
 ghost use Rattle.rules.specs.F32.{at};
 ghost use Rattle.rules.specs.Place.{get};
 ghost use Rattle.rules.specs.Tab.{tab};
-ghost use Rattle.numbers.specs.Filter.{highPass, memoryAfter, outputs};
+ghost use Rattle.numbers.specs.Filter.{high_pass, memory_after, outputs};
 ghost use Rattle.bands.specs.Windowed.{windowed};
 ghost use Rattle.frame.specs.Frame.{shifted, recent};
 
@@ -28,10 +28,10 @@ pub(crate) fn take_in(
     window: &mut [f32],
 ) -> Memory
     requires { (length mem.old ≡ 1728) × (length samples.now ≡ 480) × (length window.old ≡ 960) }
-    ensures value { result ≡ memoryAfter highPass memory samples.now }
-    ensures mem_after { mem.new ≡ shifted mem.old (outputs highPass memory samples.now) }
+    ensures value { result ≡ memory_after high_pass memory samples.now }
+    ensures mem_after { mem.new ≡ shifted mem.old (outputs high_pass memory samples.now) }
     ensures window_after { window.new
-        ≡ windowed (get (recent 0) (shifted mem.old (outputs highPass memory samples.now))) }
+        ≡ windowed (get (recent 0) (shifted mem.old (outputs high_pass memory samples.now))) }
 {
     shift(mem);
     let done = Biquad::BIQUAD_HP.filter(&mut mem[1248..1728], memory, samples);

@@ -3,9 +3,9 @@ ghost use Rattle.std.specs.Prelude.{◌≡◌, [], ◌∷◌, ◌≤◌, pos, le
 ghost use Rattle.std.specs.Float.{binary32};
 ghost use Rattle.std.specs.Float.Ieee.{of_int};
 ghost use Rattle.rules.specs.Place.{put};
-ghost use Rattle.frame.specs.Share.{keptX, keptEx, keptLag};
+ghost use Rattle.frame.specs.Share.{kept_x, kept_ex, kept_lag};
 ghost use Rattle.frame.specs.Heard.{scaled, energies};
-ghost use Rattle.frame.specs.Frame.{plusHundredth, putKept};
+ghost use Rattle.frame.specs.Frame.{plus_hundredth, put_kept};
 
 use crate::Lag;
 
@@ -33,7 +33,7 @@ pub(crate) fn transform(p: &mut [f32], ep: &mut [f32], spectrum: &[f32])
 // Adds 0.01 to each energy. The logarithms are taken of these sums.
 fn lift(ex: &mut [f32])
     requires { length ex.old ≡ 22 }
-    ensures { ex.new ≡ plusHundredth ex.old }
+    ensures { ex.new ≡ plus_hundredth ex.old }
 {
     for i in 0..22 {
         ex[i] = 0.01 + ex[i];
@@ -43,7 +43,7 @@ fn lift(ex: &mut [f32])
 // Stores the scaled spectrum in the share, and its band energies in ex.
 fn analyse(share: &mut [f32], spectrum: &[f32], ex: &mut [f32])
     requires { (length share.old ≡ 3778) × (length spectrum.now ≡ 961) × (length ex.old ≡ 22) }
-    ensures share_after { share.new ≡ put keptX share.old (scaled spectrum.now) }
+    ensures share_after { share.new ≡ put kept_x share.old (scaled spectrum.now) }
     ensures ex_after { ex.new ≡ energies spectrum.now }
 {
     transform(&mut share[2208..3169], ex, spectrum);
@@ -53,7 +53,7 @@ fn analyse(share: &mut [f32], spectrum: &[f32], ex: &mut [f32])
 fn keep(share: &mut [f32], ex: &[f32], lag: Lag)
     requires { (length share.old ≡ 3778) × (length ex.now ≡ 22) × (lag.0 ≤ 768) }
     ensures { share.new
-        ≡ put keptLag (put keptEx share.old ex.now) (of_int binary32 (pos lag.0) ∷ []) }
+        ≡ put kept_lag (put kept_ex share.old ex.now) (of_int binary32 (pos lag.0) ∷ []) }
 {
     rules::copy(&mut share[3169..3191], ex);
     share[3191] = lag.0 as f32;
@@ -63,8 +63,8 @@ fn keep(share: &mut [f32], ex: &[f32], lag: Lag)
 pub(crate) fn note(share: &mut [f32], spectrum: &[f32], lag: Lag, sums: &mut [f32])
     requires { (length share.old ≡ 3778) × (length spectrum.now ≡ 961) × (length sums.old ≡ 22)
         × (lag.0 ≤ 768) }
-    ensures share_after { share.new ≡ putKept share.old spectrum.now lag.0 }
-    ensures sums_after { sums.new ≡ plusHundredth (energies spectrum.now) }
+    ensures share_after { share.new ≡ put_kept share.old spectrum.now lag.0 }
+    ensures sums_after { sums.new ≡ plus_hundredth (energies spectrum.now) }
 {
     analyse(share, spectrum, sums);
     keep(share, sums, lag);

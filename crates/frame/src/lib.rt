@@ -3,7 +3,7 @@
 ghost use Rattle.std.specs.Prelude.{◌≡◌, [], ◌∷◌, length};
 ghost use Rattle.frame.specs.Effect.{Worked};
 ghost use Rattle.frame.specs.Frame.{call1, call2, call3, call4};
-ghost use Rattle.frame.specs.Reply.{passed, oneMore};
+ghost use Rattle.frame.specs.Reply.{passed, one_more};
 
 mod heard;
 mod input;
@@ -68,7 +68,7 @@ pub const PART: usize = 3778;
 
 // One more, and 0 after the last number.
 pub fn one_more(number: u32) -> u32
-    ensures { result ≡ oneMore number }
+    ensures { result ≡ one_more number }
 {
     if number < 4294967295 {
         return number + 1;

@@ -1,45 +1,45 @@
--- What both ways have in common: a lag that call 2 takes (`lag-fits`), the lengths of a spectrum and of its samples,
--- and that the finder's two numbers alone are written (`remembered-beside`). Assumes nothing.
+-- What both ways have in common: a lag that call 2 takes (`lag_fits`), the lengths of a spectrum and of its samples,
+-- and that the finder's two numbers alone are written (`remembered_beside`). Assumes nothing.
 use Rattle.rules.proofs.Common.{ℕ, ◌≤◌, List, ◌≡◌, refl, length, Float}
 use native.Mathlib.Omega.{arith}
 use mathlib.Core.Logic.{inl}
 use Rattle.rules.specs.F32.{at}
 use Rattle.rules.specs.Place.{Place, get}
 use Rattle.rules.proofs.Places.{Apart}
-use Rattle.rules.proofs.Lists.{length-tab}
-use Rattle.lag.proofs.Ranges.{in-range}
-use Rattle.finder.proofs.Ranges.{period-in-range}
-use Rattle.transforms.specs.Transform.{forwardOf, inverseOf}
-use Rattle.fft.specs.Fast.{forwardOver, inverseOver}
-use Rattle.fft.specs.Single.{fastForward, fastInverse}
-use Rattle.frame.specs.Share.{PART, inputMem, finderMem}
+use Rattle.rules.proofs.Lists.{length_tab}
+use Rattle.lag.proofs.Ranges.{in_range_lem}
+use Rattle.finder.proofs.Ranges.{period_in_range}
+use Rattle.transforms.specs.Transform.{forward_of, inverse_of}
+use Rattle.fft.specs.Fast.{forward_over, inverse_over}
+use Rattle.fft.specs.Single.{fast_forward, fast_inverse}
+use Rattle.frame.specs.Share.{PART, input_mem, finder_mem}
 use Rattle.frame.specs.declared.Way.{Way}
 use Rattle.frame.specs.declared.Way.TheVariants.{Own, Nnnoiseless}
-use Rattle.frame.proofs.Beside.{Beside, put-beside}
+use Rattle.frame.proofs.Beside.{Beside, put_beside}
 use Rattle.frame.proofs.Keeps.{end}
-use Rattle.halves.specs.Ways.{lagBy, remembered, forwardBy, inverseBy}
+use Rattle.halves.specs.Ways.{lag_by, remembered, forward_by, inverse_by}
 
-pub lag-fits : (way : Way) (part : List Float) → lagBy way part ≤ 768
-unfolding lagBy
-lag-fits Own part = (in-range (get inputMem part)).1
-lag-fits Nnnoiseless part =
-    omega (arith, (period-in-range (at (get finderMem part) 0) (at (get finderMem part) 1) (get inputMem part)).1)
+pub lag_fits : (way : Way) (part : List Float) → lag_by way part ≤ 768
+unfolding lag_by
+lag_fits Own part = (in_range_lem (get input_mem part)).1
+lag_fits Nnnoiseless part =
+    omega (arith, (period_in_range (at (get finder_mem part) 0) (at (get finder_mem part) 1) (get input_mem part)).1)
 
-pub length-forward : (way : Way) (samples : List Float) → length (forwardBy way samples) ≡ 961
-unfolding forwardBy forwardOf fastForward forwardOver
-length-forward Own samples = length-tab 961 _
-length-forward Nnnoiseless samples = length-tab 961 _
+pub length_forward : (way : Way) (samples : List Float) → length (forward_by way samples) ≡ 961
+unfolding forward_by forward_of fast_forward forward_over
+length_forward Own samples = length_tab 961 _
+length_forward Nnnoiseless samples = length_tab 961 _
 
-pub length-inverse : (way : Way) (spectrum : List Float) → length (inverseBy way spectrum) ≡ 960
-unfolding inverseBy inverseOf fastInverse inverseOver
-length-inverse Own spectrum = length-tab 960 _
-length-inverse Nnnoiseless spectrum = length-tab 960 _
+pub length_inverse : (way : Way) (spectrum : List Float) → length (inverse_by way spectrum) ≡ 960
+unfolding inverse_by inverse_of fast_inverse inverse_over
+length_inverse Own spectrum = length_tab 960 _
+length_inverse Nnnoiseless spectrum = length_tab 960 _
 
-pub remembered-beside : (q : Place) (part : List Float) (way : Way) → Apart finderMem q → length part ≡ PART
+pub remembered_beside : (q : Place) (part : List Float) (way : Way) → Apart finder_mem q → length part ≡ PART
     → Beside q part (remembered way part)
 unfolding remembered
-remembered-beside q part Own apart whole = record { size = whole; same = refl }
-remembered-beside q part Nnnoiseless apart whole = put-beside q finderMem part _ (omega arith) apart whole refl
+remembered_beside q part Own apart whole = record { size = whole; same = refl }
+remembered_beside q part Nnnoiseless apart whole = put_beside q finder_mem part _ (omega arith) apart whole refl
 
-pub whole-remembered : (part : List Float) (way : Way) → length part ≡ PART → length (remembered way part) ≡ PART
-whole-remembered part way whole = (remembered-beside end part way (inl (omega arith)) whole).size
+pub whole_remembered : (part : List Float) (way : Way) → length part ≡ PART → length (remembered way part) ≡ PART
+whole_remembered part way whole = (remembered_beside end part way (inl (omega arith)) whole).size

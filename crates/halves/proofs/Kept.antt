@@ -9,37 +9,37 @@ use Rattle.frame.specs.declared.Hearing.{Hearing}
 use Rattle.frame.specs.declared.Reply.{Reply}
 use Rattle.frame.specs.declared.Reply.TheVariants.{Silent, Heard, Refused, Misread}
 use Rattle.frame.specs.declared.Way.{Way}
-use Rattle.frame.specs.Share.{PART, inputMem, synthesisMem, keptX, keptEx, keptLag, memHpX, finderMem}
+use Rattle.frame.specs.Share.{PART, input_mem, synthesis_mem, kept_x, kept_ex, kept_lag, mem_hp_x, finder_mem}
 use Rattle.frame.specs.Heard.{spoken}
-use Rattle.frame.specs.Written.{firstIn}
+use Rattle.frame.specs.Written.{first_in}
 use Rattle.frame.specs.Effect.{refusal}
 use Rattle.frame.specs.Frame.{done1}
-use Rattle.frame.proofs.Beside.{Beside, AllApart, then, done1-beside, done2-beside, done3-beside, done4-beside}
+use Rattle.frame.proofs.Beside.{Beside, AllApart, then, done1_beside, done2_beside, done3_beside, done4_beside}
 use Rattle.frame.proofs.Keeps.{Keeps, end, unmoved, moved}
-use Rattle.halves.specs.Ways.{lagBy, remembered, forwardBy, inverseBy}
-use Rattle.halves.specs.Halves.{lookedBack, firstHalf, secondHalf}
-use Rattle.halves.proofs.Cases.{doneFirst, doneSecond, first-half-by, second-half-by}
-use Rattle.halves.proofs.EitherWay.{remembered-beside}
+use Rattle.halves.specs.Ways.{lag_by, remembered, forward_by, inverse_by}
+use Rattle.halves.specs.Halves.{looked_back, first_half, second_half}
+use Rattle.halves.proofs.Cases.{done_first, done_second, first_half_by, second_half_by}
+use Rattle.halves.proofs.EitherWay.{remembered_beside}
 
 -- ---- places apart
 
 module _ (q : Place) where
-  pub done-first-beside : (share : List Float) (way : Way) (samples : List Float)
-      → AllApart (inputMem ∷ memHpX ∷ keptX ∷ keptEx ∷ keptLag ∷ finderMem ∷ []) q
-      → length share ≡ PART → length samples ≡ 480 → Beside q share (doneFirst share way samples).kept
-  done-first-beside share way samples apart whole l =
+  pub done_first_beside : (share : List Float) (way : Way) (samples : List Float)
+      → AllApart (input_mem ∷ mem_hp_x ∷ kept_x ∷ kept_ex ∷ kept_lag ∷ finder_mem ∷ []) q
+      → length share ≡ PART → length samples ≡ 480 → Beside q share (done_first share way samples).kept
+  done_first_beside share way samples apart whole l =
       let a = done1 share samples in
-      let one = done1-beside q share samples (apart.0, (apart.1.0, tt)) whole l in
+      let one = done1_beside q share samples (apart.0, (apart.1.0, tt)) whole l in
       let kept = apart.1.1 in
-      let two = then q one (remembered-beside q a.kept way kept.1.1.1.0 one.size) in
-      then q two (done2-beside q (remembered way a.kept) (forwardBy way (firstIn a.written)) (lagBy way a.kept)
+      let two = then q one (remembered_beside q a.kept way kept.1.1.1.0 one.size) in
+      then q two (done2_beside q (remembered way a.kept) (forward_by way (first_in a.written)) (lag_by way a.kept)
       (kept.0, (kept.1.0, (kept.1.1.0, tt))) two.size)
 
-  pub done-second-beside : (reply : Reply) (share after : List Float) (way : Way) (spectrum : List Float)
-      → AllApart (synthesisMem ∷ []) q → Beside q share after
-      → Beside q share (doneSecond reply after way spectrum).kept
-  done-second-beside reply share after way spectrum apart b =
-      then q b (done4-beside q after (inverseBy way spectrum) apart b.size)
+  pub done_second_beside : (reply : Reply) (share after : List Float) (way : Way) (spectrum : List Float)
+      → AllApart (synthesis_mem ∷ []) q → Beside q share after
+      → Beside q share (done_second reply after way spectrum).kept
+  done_second_beside reply share after way spectrum apart b =
+      then q b (done4_beside q after (inverse_by way spectrum) apart b.size)
 
 -- ---- lengths, and what a refusal leaves
 
@@ -50,28 +50,28 @@ module _ (share : List Float) where
   as_it_was : (q : Place) → length share ≡ PART → Beside q share share
   as_it_was q whole = record { size = whole; same = refl }
 
-  pub first-half-keeps : (way : Way) (samples : List Float) (sums : ℕ) → Keeps share (firstHalf share way samples sums)
-  first-half-keeps way samples sums =
-      first-half-by share (Keeps share) (λ n. refused (Refused n)) way samples sums
+  pub first_half_keeps : (way : Way) (samples : List Float) (sums : ℕ) → Keeps share (first_half share way samples sums)
+  first_half_keeps way samples sums =
+      first_half_by share (Keeps share) (λ n. refused (Refused n)) way samples sums
       (λ whole l.
-      moved share (doneFirst share way samples) refl whole
-      (done-first-beside end share way samples (
+      moved share (done_first share way samples) refl whole
+      (done_first_beside end share way samples (
         inl (omega arith),
         (inl (omega arith), (inl (omega arith), (inl (omega arith), (inl (omega arith), (inl (omega arith), tt))))),
       ) whole l))
 
-  pub second-half-keeps : (hearing : Hearing) (logs : List Float) (model : List ℕ) (out : ℕ)
-      → Keeps share (secondHalf share hearing logs model out)
-  second-half-keeps hearing logs model out =
-      second-half-by share (Keeps share) (λ n. refused (Refused n)) hearing logs model out
+  pub second_half_keeps : (hearing : Hearing) (logs : List Float) (model : List ℕ) (out : ℕ)
+      → Keeps share (second_half share hearing logs model out)
+  second_half_keeps hearing logs model out =
+      second_half_by share (Keeps share) (λ n. refused (Refused n)) hearing logs model out
       (λ n l _. refused (Misread n l))
-      (λ whole. moved share (doneSecond Silent share hearing.way (get keptX share)) refl whole
-      (done-second-beside end Silent share share hearing.way (get keptX share) (inl (omega arith), tt)
+      (λ whole. moved share (done_second Silent share hearing.way (get kept_x share)) refl whole
+      (done_second_beside end Silent share share hearing.way (get kept_x share) (inl (omega arith), tt)
       (as_it_was end whole)))
       (λ e m good whole inside.
-      let s = spoken share hearing.index (forwardBy hearing.way (lookedBack share)) logs model m in
-      moved share (doneSecond (Heard s.voice e) s.share hearing.way s.spectrum) refl whole
-      (done-second-beside end (Heard s.voice e) share s.share hearing.way s.spectrum (inl (omega arith), tt)
-      (done3-beside end share hearing.index (forwardBy hearing.way (lookedBack share)) logs model m
+      let s = spoken share hearing.index (forward_by hearing.way (looked_back share)) logs model m in
+      moved share (done_second (Heard s.voice e) s.share hearing.way s.spectrum) refl whole
+      (done_second_beside end (Heard s.voice e) share s.share hearing.way s.spectrum (inl (omega arith), tt)
+      (done3_beside end share hearing.index (forward_by hearing.way (looked_back share)) logs model m
       (inl (omega arith), (inl (omega arith), (inl (omega arith), (inl (omega arith), (inl (omega arith), tt))))) good
       whole inside)))

@@ -8,67 +8,67 @@ use borrow.Author.Tests.{ltb-false}
 use Rattle.rules.specs.F32.{at}
 use Rattle.rules.specs.Place.{get, put}
 use Rattle.rules.specs.Refusals.{wrong}
-use Rattle.frame.specs.Written.{firstIn}
+use Rattle.frame.specs.Written.{first_in}
 use Rattle.rules.proofs.Refusals.{right}
-use Rattle.rules.proofs.Places.{get-put, length-put}
-use Rattle.rules.proofs.Lists.{length-tab}
+use Rattle.rules.proofs.Places.{get_put, length_put}
+use Rattle.rules.proofs.Lists.{length_tab}
 use Rattle.bands.specs.Windowed.{windowed}
-use Rattle.bands.proofs.Results.{length-corr}
-use Rattle.lag.specs.Lag.{ownLag}
-use Rattle.finder.specs.Kept.{wholeLag}
-use Rattle.finder.proofs.Lags.{lag-small, lag-back}
+use Rattle.bands.proofs.Results.{length_corr}
+use Rattle.lag.specs.Lag.{own_lag}
+use Rattle.finder.specs.Kept.{whole_lag}
+use Rattle.finder.proofs.Lags.{lag_small, lag_back}
 use Rattle.frame.specs.declared.Reply.{Reply}
 use Rattle.frame.specs.Effect.{Effect}
 use Rattle.frame.specs.Reply.{◌refusedIf◌}
-use Rattle.frame.specs.Share.{PART, inputMem, keptX, keptEx, keptLag}
+use Rattle.frame.specs.Share.{PART, input_mem, kept_x, kept_ex, kept_lag}
 use Rattle.frame.specs.Heard.{scaled, energies}
-use Rattle.frame.specs.Frame.{recent, putKept, done2, call2}
-use Rattle.frame.proofs.Beside.{done2-beside}
-use Rattle.frame.proofs.Tables.{not-when, by-accepted}
-use Rattle.frame.proofs.Sizes.{lag-at, looked-at}
-use Rattle.halves.specs.Own.{call2Own}
+use Rattle.frame.specs.Frame.{recent, put_kept, done2, call2}
+use Rattle.frame.proofs.Beside.{done2_beside}
+use Rattle.frame.proofs.Tables.{not_when, by_accepted}
+use Rattle.frame.proofs.Sizes.{lag_at, looked_at}
+use Rattle.halves.specs.Own.{call2_own}
 use Rattle.halves.specs.Laws.{SameWindow, OwnWindow}
-use Rattle.halves.specs.Halves.{lookedBack}
+use Rattle.halves.specs.Halves.{looked_back}
 
 -- call 2's window
-pub looked-back : (share : List Float) {lag : ℕ} → length share ≡ PART → lag ≡ wholeLag (at share 3191)
-    → windowed (take (768 - lag + 960 - (768 - lag)) (drop (768 - lag) share)) ≡ lookedBack share
-unfolding lookedBack
-looked-back share {lag} whole e =
-    let small : lag ≤ 768 = rw e (lag-small (at share 3191)) in
-    rw (looked-at share lag whole small, e, lag-at share)
+pub looked_back_lem : (share : List Float) {lag : ℕ} → length share ≡ PART → lag ≡ whole_lag (at share 3191)
+    → windowed (take (768 - lag + 960 - (768 - lag)) (drop (768 - lag) share)) ≡ looked_back share
+unfolding looked_back
+looked_back_lem share {lag} whole e =
+    let small : lag ≤ 768 = rw e (lag_small (at share 3191)) in
+    rw (looked_at share lag whole small, e, lag_at share)
 
 -- ---- behind a call 2
 
-looks-at : (share spectrum : List Float) (lag : ℕ) → length share ≡ PART → lag ≤ 768
-    → lookedBack (putKept share spectrum lag) ≡ windowed (get (recent lag) (get inputMem share))
-unfolding lookedBack putKept scaled energies
-looks-at share spectrum lag whole small =
-    let x = put keptX share (scaled spectrum) in
-    let before = put keptEx x (energies spectrum) in
+looks_at : (share spectrum : List Float) (lag : ℕ) → length share ≡ PART → lag ≤ 768
+    → looked_back (put_kept share spectrum lag) ≡ windowed (get (recent lag) (get input_mem share))
+unfolding looked_back put_kept scaled energies
+looks_at share spectrum lag whole small =
+    let x = put kept_x share (scaled spectrum) in
+    let before = put kept_ex x (energies spectrum) in
     let size : length before ≡ PART =
-    length-put keptEx x (energies spectrum)
-    (rw (length-put keptX share (scaled spectrum) (omega arith) (length-tab 961 _)) (omega arith))
-    (length-corr (scaled spectrum) (scaled spectrum))
-    ∙ length-put keptX share (scaled spectrum) (omega arith) (length-tab 961 _)
+    length_put kept_ex x (energies spectrum)
+    (rw (length_put kept_x share (scaled spectrum) (omega arith) (length_tab 961 _)) (omega arith))
+    (length_corr (scaled spectrum) (scaled spectrum))
+    ∙ length_put kept_x share (scaled spectrum) (omega arith) (length_tab 961 _)
     ∙ whole in
-    let lag-is : get keptLag (putKept share spectrum lag) ≡ (of_int binary32 (pos lag) ∷ []) =
-    get-put keptLag before (of_int binary32 (pos lag) ∷ []) (omega arith) refl in
-    let mem_is = (done2-beside inputMem share spectrum lag
+    let lag_is : get kept_lag (put_kept share spectrum lag) ≡ (of_int binary32 (pos lag) ∷ []) =
+    get_put kept_lag before (of_int binary32 (pos lag) ∷ []) (omega arith) refl in
+    let mem_is = (done2_beside input_mem share spectrum lag
     (inr (omega arith), (inr (omega arith), (inr (omega arith), tt))) whole).same in
-    rw (lag-is, mem_is, lag-back lag small)
+    rw (lag_is, mem_is, lag_back lag small)
 
-pub same-window : SameWindow
+pub same_window : SameWindow
 unfolding call2
-same-window share spectrum lag window sums =
-    by-accepted share (done2 share spectrum lag) (λ (f : Effect Reply). lookedBack f.kept ≡ firstIn f.written)
+same_window share spectrum lag window sums =
+    by_accepted share (done2 share spectrum lag) (λ (f : Effect Reply). looked_back f.kept ≡ first_in f.written)
     (5 refusedIf wrong lengths ∷ 6 refusedIf ltb 768 lag ∷ [])
-    (λ c _. looks-at share spectrum lag (right lengths (not-when 5 (wrong lengths) c.0)).0
-    (ltb-false 768 lag (not-when 6 (ltb 768 lag) c.1.0)))
+    (λ c _. looks_at share spectrum lag (right lengths (not_when 5 (wrong lengths) c.0)).0
+    (ltb-false 768 lag (not_when 6 (ltb 768 lag) c.1.0)))
   where
     lengths : List (ℕ × ℕ)
     lengths = (length share, PART) ∷ (length spectrum, 961) ∷ (window, 960) ∷ (sums, 22) ∷ []
 
-pub own-window : OwnWindow
-unfolding call2Own
-own-window share spectrum window sums = same-window share spectrum (ownLag (get inputMem share)) window sums
+pub own_window : OwnWindow
+unfolding call2_own
+own_window share spectrum window sums = same_window share spectrum (own_lag (get input_mem share)) window sums

@@ -1,11 +1,11 @@
 -- The sister of call 2 (request 04): call 2 with our own lag, found in the share's own `input_mem`.
 use Rattle.rules.specs.Common.{ℕ, List, Float}
 use Rattle.rules.specs.Place.{get}
-use Rattle.lag.specs.Lag.{ownLag}
-use Rattle.frame.specs.Share.{inputMem}
+use Rattle.lag.specs.Lag.{own_lag}
+use Rattle.frame.specs.Share.{input_mem}
 use Rattle.frame.specs.declared.Reply.{Reply}
 use Rattle.frame.specs.Effect.{Effect}
 use Rattle.frame.specs.Frame.{call2}
 
-unfoldable pub call2Own : List Float → List Float → ℕ → ℕ → Effect Reply
-call2Own share spectrum window sums = call2 share spectrum (ownLag (get inputMem share)) window sums
+unfoldable pub call2_own : List Float → List Float → ℕ → ℕ → Effect Reply
+call2_own share spectrum window sums = call2 share spectrum (own_lag (get input_mem share)) window sums

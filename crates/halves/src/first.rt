@@ -1,7 +1,7 @@
 // The first half of a frame: call 1, the forward transform of its window, and call 2 with the lag.
 ghost use Rattle.std.specs.Prelude.{[], ◌∷◌, ◌≡◌, length};
 ghost use Rattle.frame.specs.Effect.{Worked};
-ghost use Rattle.halves.specs.Halves.{analysed, firstHalf};
+ghost use Rattle.halves.specs.Halves.{analysed, first_half};
 
 use frame::{PART, Reply, Way};
 
@@ -19,7 +19,7 @@ fn analyse(share: &mut [f32], way: Way, window: &mut [f32], sums: &mut [f32]) ->
 
 // The first half. Takes 480 samples and writes 22 sums, whose logarithms the second half needs.
 pub fn first_half(share: &mut [f32], way: Way, samples: &[f32], sums: &mut [f32]) -> Reply
-    ensures { Worked (firstHalf share.old way samples.now (length sums.old))
+    ensures { Worked (first_half share.old way samples.now (length sums.old))
         result share.new (sums.old ∷ []) (sums.new ∷ []) }
 {
     if share.len() != PART {

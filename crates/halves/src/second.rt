@@ -3,15 +3,15 @@
 ghost use Rattle.std.specs.Prelude.{[], ◌∷◌, ◌≡◌, length};
 ghost use Rattle.frame.specs.Effect.{Worked};
 ghost use Rattle.frame.specs.Frame.{call4};
-ghost use Rattle.halves.specs.Ways.{forwardBy, inverseBy};
-ghost use Rattle.halves.specs.Halves.{lookedBack, secondHalf};
+ghost use Rattle.halves.specs.Ways.{forward_by, inverse_by};
+ghost use Rattle.halves.specs.Halves.{looked_back, second_half};
 
 use frame::{Hearing, PART, Reply, Way};
 
 // The spectrum of the window that call 2 gave, for the lag that the share keeps.
 fn look_back(spectrum: &mut [f32], share: &[f32], way: Way)
     requires { (length spectrum.old ≡ 961) × (length share.now ≡ 3778) }
-    ensures { spectrum.new ≡ forwardBy way (lookedBack share.now) }
+    ensures { spectrum.new ≡ forward_by way (looked_back share.now) }
 {
     let lag = finder::kept::whole_lag(share[3191]);
     let from = 768 - lag;
@@ -23,7 +23,7 @@ fn look_back(spectrum: &mut [f32], share: &[f32], way: Way)
 // Call 4 with the inverse of what call 3 wrote.
 fn synthesise(share: &mut [f32], way: Way, spectrum: &[f32], out: &mut [f32]) -> Reply
     requires { length spectrum.now ≡ 961 }
-    ensures { Worked (call4 share.old (inverseBy way spectrum.now)
+    ensures { Worked (call4 share.old (inverse_by way spectrum.now)
         (length out.old))
         result share.new (out.old ∷ []) (out.new ∷ []) }
 {
@@ -42,7 +42,7 @@ pub fn second_half(
     out: &mut [f32],
 ) -> Reply
     ensures { Worked
-        (secondHalf share.old hearing logs.now model.now (length out.old))
+        (second_half share.old hearing logs.now model.now (length out.old))
         result share.new (out.old ∷ []) (out.new ∷ []) }
 {
     if share.len() != PART {

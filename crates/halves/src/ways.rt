@@ -2,14 +2,14 @@
 ghost use Rattle.std.specs.Prelude.{◌≡◌, length};
 ghost use Rattle.frame.specs.declared.Way.TheVariants.{Nnnoiseless};
 ghost use Rattle.transforms.specs.Transform.{ForwardFits, InverseFits};
-ghost use Rattle.halves.specs.Ways.{lagBy, remembered, forwardBy, inverseBy};
+ghost use Rattle.halves.specs.Ways.{lag_by, remembered, forward_by, inverse_by};
 
 use frame::{Lag, Way};
 
 // The finder's period. The finder remembers it, with its gain.
 fn find(share: &mut [f32]) -> Lag
     requires { length share.old ≡ 3778 }
-    ensures result_value { result.0 ≡ lagBy Nnnoiseless share.old }
+    ensures result_value { result.0 ≡ lag_by Nnnoiseless share.old }
     ensures share_after { share.new ≡ remembered Nnnoiseless share.old }
 {
     let found = finder::find(share[3776], share[3777], &share[0..1728]);
@@ -22,7 +22,7 @@ fn find(share: &mut [f32]) -> Lag
 // The lag of a way. What is remembered of it is stored.
 pub(crate) fn lag(share: &mut [f32], way: Way) -> Lag
     requires { length share.old ≡ 3778 }
-    ensures result_value { result.0 ≡ lagBy way share.old }
+    ensures result_value { result.0 ≡ lag_by way share.old }
     ensures share_after { share.new ≡ remembered way share.old }
 {
     match way {
@@ -34,7 +34,7 @@ pub(crate) fn lag(share: &mut [f32], way: Way) -> Lag
 // The spectrum of 960 samples.
 pub(crate) fn forward(out: &mut [f32], samples: &[f32], way: Way)
     requires { ForwardFits (length out.old) (length samples.now) }
-    ensures { out.new ≡ forwardBy way samples.now }
+    ensures { out.new ≡ forward_by way samples.now }
 {
     match way {
         Way::Own => {
@@ -49,7 +49,7 @@ pub(crate) fn forward(out: &mut [f32], samples: &[f32], way: Way)
 // The samples of a spectrum.
 pub(crate) fn inverse(out: &mut [f32], spectrum: &[f32], way: Way)
     requires { InverseFits (length out.old) (length spectrum.now) }
-    ensures { out.new ≡ inverseBy way spectrum.now }
+    ensures { out.new ≡ inverse_by way spectrum.now }
 {
     match way {
         Way::Own => {

@@ -5,16 +5,16 @@ use Rattle.rules.proofs.Common.{ℕ, ◌+◌, ◌%◌, Bool, true, false, cond, 
 use native.Mathlib.Nat.{zero-add}
 use native.Mathlib.Omega.{arith}
 use borrow.Author.Tests.{ltb-true, ltb-false}
-use Rattle.frame.specs.Reply.{oneMore}
+use Rattle.frame.specs.Reply.{one_more}
 use Rattle.memory.specs.Calls.{FrameCall, one, two, three, four}
 use Rattle.memory.specs.Brought.{Noted, noting, unnoted, brought}
 use Rattle.memory.proofs.Kept.{Kept, kept}
 use Rattle.isolation.specs.Run.{Kind, Made, expand, Expands}
-use Rattle.isolation.specs.Numbering.{callsIn, framesEnded, Numbering}
+use Rattle.isolation.specs.Numbering.{calls_in, frames_ended, Numbering}
 use Rattle.isolation.proofs.Moved.{kept_at, run, fresh}
 
 -- one more, and 0 after the last, is one more modulo 2^32
-next : (a n : ℕ) → n ≡ a % 4294967296 → oneMore n ≡ (a + 1) % 4294967296
+next : (a n : ℕ) → n ≡ a % 4294967296 → one_more n ≡ (a + 1) % 4294967296
 next a n e = go (ltb n 4294967295) refl
   where
     go : (t : Bool) → ltb n 4294967295 ≡ t → cond t (n + 1) 0 ≡ (a + 1) % 4294967296
@@ -22,8 +22,8 @@ next a n e = go (ltb n 4294967295) refl
     go false h = let above = ltb-false n 4294967295 h in omega arith
 
 kept_frame : (k : Kept) (cs : List FrameCall) (a : ℕ) → k.frame ≡ a % 4294967296
-    → (kept k cs).frame ≡ (a + framesEnded cs) % 4294967296
-unfolding kept framesEnded
+    → (kept k cs).frame ≡ (a + frames_ended cs) % 4294967296
+unfolding kept frames_ended
 kept_frame k [] a e = e ∙ omega arith
 kept_frame k (one ∷ cs) a e = kept_frame k cs a e
 kept_frame k (two x lag ∷ cs) a e = kept_frame _ cs a e
@@ -31,24 +31,24 @@ kept_frame k (three true x logs m ∷ cs) a e = kept_frame _ cs a e
 kept_frame k (three false x logs m ∷ cs) a e = kept_frame k cs a e
 kept_frame k (four ∷ cs) a e = kept_frame _ cs (a + 1) (next a k.frame e) ∙ omega arith
 
-kept-heard : (k : Kept) (n : Noted) (cs : List FrameCall) (a : ℕ) → k.heard ≡ a % 4294967296
+kept_heard : (k : Kept) (n : Noted) (cs : List FrameCall) (a : ℕ) → k.heard ≡ a % 4294967296
     → (kept k cs).heard ≡ (a + length (brought n cs)) % 4294967296
 unfolding kept brought
-kept-heard k n [] a e = e ∙ omega arith
-kept-heard k n (one ∷ cs) a e = kept-heard k n cs a e
-kept-heard k n (two x lag ∷ cs) a e = kept-heard _ (noting x lag) cs a e
-kept-heard k n (three true x logs m ∷ cs) a e = kept-heard _ n cs (a + 1) (next a k.heard e) ∙ omega arith
-kept-heard k n (three false x logs m ∷ cs) a e = kept-heard k n cs a e
-kept-heard k n (four ∷ cs) a e = kept-heard _ n cs a e
+kept_heard k n [] a e = e ∙ omega arith
+kept_heard k n (one ∷ cs) a e = kept_heard k n cs a e
+kept_heard k n (two x lag ∷ cs) a e = kept_heard _ (noting x lag) cs a e
+kept_heard k n (three true x logs m ∷ cs) a e = kept_heard _ n cs (a + 1) (next a k.heard e) ∙ omega arith
+kept_heard k n (three false x logs m ∷ cs) a e = kept_heard k n cs a e
+kept_heard k n (four ∷ cs) a e = kept_heard _ n cs a e
 
 pub numbering : {C : Type 0} (serve : Kind C) (asksOf : Made C) (n : ℕ) (expanded : Expands serve asksOf n)
     → Numbering serve asksOf n
 numbering serve asksOf n expanded s inside st o calls u =
     let asks = expand serve asksOf n st calls in
-    let cs = callsIn n s st asks in
+    let cs = calls_in n s st asks in
     let k = kept_at n s inside st in
     let new = fresh n s inside st o in
     let r = run n s inside asks st new.1 u in
     let frame = ap (λ (k : Kept). k.frame) r ∙ kept_frame k cs 0 (ap (λ (k : Kept). k.frame) new.0) in
-    let heard = ap (λ (k : Kept). k.heard) r ∙ kept-heard k unnoted cs 0 (ap (λ (k : Kept). k.heard) new.0) in
+    let heard = ap (λ (k : Kept). k.heard) r ∙ kept_heard k unnoted cs 0 (ap (λ (k : Kept). k.heard) new.0) in
     rw (expanded st calls) (simp zero-add at frame, simp zero-add at heard)

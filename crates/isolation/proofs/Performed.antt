@@ -13,7 +13,7 @@ use native.Mathlib.Omega.{arith}
 use mathlib.Core.Logic.{inr}
 use borrow.Author.Tests.{ne_eqb, eqb-true}
 use Rattle.rules.specs.Place.{get}
-use Rattle.rules.proofs.Places.{length-get, put-get, get-whole, put_whole}
+use Rattle.rules.proofs.Places.{length_get, put_get, get_whole, put_whole}
 use Rattle.frame.specs.Effect.{Effect, refusal}
 use Rattle.frame.specs.Share.{SHARE}
 use Rattle.frame.specs.declared.Reply.TheVariants.{Refused}
@@ -21,7 +21,7 @@ use Rattle.desk.specs.declared.Answer.{Answer}
 use Rattle.desk.specs.declared.Record.{Record}
 use Rattle.desk.specs.Gate.{side_of, gate, share_of}
 use Rattle.desk.specs.Laws.{placed, AnsweredAlike}
-use Rattle.desk.proofs.Turned.{through, gate-own, closed-opens}
+use Rattle.desk.proofs.Turned.{through, gate_own, closed_opens}
 use Rattle.isolation.specs.Local.{Local, performed}
 
 -- a call of a bench of this side, whose store is its share
@@ -31,9 +31,9 @@ lonely side b xs l =
     cond (eqb number 0) (l.work side b xs) (refusal (record { reply = Refused number; rec = b }) xs)
 
 module _ (l : Local) where
-  pub one-bench : (b : Record) (xs : List Float) → length xs ≡ SHARE → performed 1 0 b xs l ≡ lonely 0 b xs l
+  pub one_bench : (b : Record) (xs : List Float) → length xs ≡ SHARE → performed 1 0 b xs l ≡ lonely 0 b xs l
   unfolding performed lonely
-  one-bench b xs k = rw (k, get-whole xs SHARE k, put_whole xs SHARE k)
+  one_bench b xs k = rw (k, get_whole xs SHARE k, put_whole xs SHARE k)
 
   pub sized : (side : ℕ) (b : Record) (xs : List Float) → length xs ≡ SHARE → length (lonely side b xs l).kept ≡ SHARE
   unfolding lonely
@@ -49,7 +49,7 @@ module _ (l : Local) where
   pub its_own : (n bench : ℕ) (store : List Float) → bench < n → length store ≡ n * SHARE → (b : Record)
       → performed n bench b store l ≡ placed bench store (lonely (side_of bench) b (get (share_of bench) store) l)
   unfolding performed lonely
-  its_own n bench store h k b = rw (gate-own n bench b (length store) l.call h k)
+  its_own n bench store h k b = rw (gate_own n bench b (length store) l.call h k)
       (go (eqb (gate 1 0 b SHARE l.call) 0))
     where
       go : (t : Bool)
@@ -58,12 +58,12 @@ module _ (l : Local) where
           cond t (placed bench store (l.work (side_of bench) b share)) (refusal answer store)
           ≡ placed bench store (cond t (l.work (side_of bench) b share) (refusal answer share))
       go true = refl
-      go false = rw (put-get (share_of bench) store)
+      go false = rw (put_get (share_of bench) store)
 
-  pub no-side : (n bench : ℕ) → n ≤ bench → (b : Record) (store : List Float) → (performed n bench b store l).kept
+  pub no_side : (n bench : ℕ) → n ≤ bench → (b : Record) (store : List Float) → (performed n bench b store l).kept
       ≡ store
   unfolding performed
-  no-side n bench h b store =
+  no_side n bench h b store =
       let shut : gate n bench b (length store) l.call ≡ 0
       → ⊥ = λ z. omega (arith, (through n bench b (length store) l.call z).0) in
       rw (ne_eqb (gate n bench b (length store) l.call) 0 shut)
@@ -80,5 +80,5 @@ module _ (l : Local) where
           → let answer : Answer = record { reply = Refused number; rec = b } in
           AnsweredAlike (cond t (l.work side b xs) (refusal answer xs))
           (cond t (l.work side b ys) (refusal answer ys))
-      go true e = l.blind (closed-opens 1 0 b SHARE l.call z (eqb-true number 0 e)) side b xs ys z
+      go true e = l.blind (closed_opens 1 0 b SHARE l.call z (eqb-true number 0 e)) side b xs ys z
       go false e = record { answer = refl; written = refl; store = inr z }

@@ -12,10 +12,10 @@ use Rattle.frame.specs.declared.Way.TheVariants.{Own, Nnnoiseless}
 use Rattle.desk.specs.declared.Answer.{Answer}
 use Rattle.desk.specs.declared.Record.{Record}
 use Rattle.desk.specs.Desk.{Ask, desk}
-use Rattle.desk.specs.Gate.{wayNumber}
-use Rattle.desk.specs.Surface.{benchNumber, numbersOf, wayIn, recordIn, handedBack, hosted}
-use Rattle.desk.proofs.Kept.{refused-keeps}
-use Rattle.isolation.specs.Run.{Kind, On, on, State, recordAt, after, ended, desks, Made, expand, Expands}
+use Rattle.desk.specs.Gate.{way_number}
+use Rattle.desk.specs.Surface.{bench_number, numbers_of, way_in, record_in, handed_back, hosted}
+use Rattle.desk.proofs.Kept.{refused_keeps}
+use Rattle.isolation.specs.Run.{Kind, On, on, State, record_at, after, ended, desks, Made, expand, Expands}
 
 pub joined : {C : Type 0} (serve : Kind C) (n : ℕ) (first rest : List (On C)) (st : State)
     → ended serve n st (first ++ rest) ≡ ended serve n (ended serve n st first) rest
@@ -25,64 +25,64 @@ joined serve n (c ∷ first) rest st = joined serve n first rest (after serve n 
 
 -- ---- the desk's calls
 
-pub way_back : (w : Way) → (leb (wayNumber w) 1 ≡ true) × (wayIn (wayNumber w) ≡ w)
+pub way_back : (w : Way) → (leb (way_number w) 1 ≡ true) × (way_in (way_number w) ≡ w)
 way_back Own = (refl, refl)
 way_back Nnnoiseless = (refl, refl)
 
-pub reads : (s : ℕ) (b : Record) → recordIn s (numbersOf s b) ≡ b
-unfolding recordIn
+pub reads : (s : ℕ) (b : Record) → record_in s (numbers_of s b) ≡ b
+unfolding record_in
 reads s b =
     let k = way_back b.hearing.way in
-    let number = benchNumber s b.due in
+    let number = bench_number s b.due in
     rw (k.0, eq-eqb number number refl, k.1)
 
 -- the record that is handed back, where a refusal leaves it
-handed : (s : ℕ) (ns : List ℕ) (a : Answer) → (passed a.reply ≡ false → a.rec ≡ recordIn s ns)
-    → recordIn s (handedBack s a ns) ≡ a.rec
-unfolding recordIn
+handed : (s : ℕ) (ns : List ℕ) (a : Answer) → (passed a.reply ≡ false → a.rec ≡ record_in s ns)
+    → record_in s (handed_back s a ns) ≡ a.rec
+unfolding record_in
 handed s ns a keeps = go (passed a.reply) refl
   where
-    go : (t : Bool) → passed a.reply ≡ t → recordIn s (cond t (numbersOf s a.rec) ns) ≡ a.rec
+    go : (t : Bool) → passed a.reply ≡ t → record_in s (cond t (numbers_of s a.rec) ns) ≡ a.rec
     go true p = reads s a.rec
     go false p = sym (keeps p)
 
-pub record-after : (n s : ℕ) (st : State) (c : On Ask)
-    → recordAt s (after desks n st c)
-    ≡ cond (eqb c.side s) (desk n c.side (recordAt c.side st) st.store c.call).answer.rec
-    (recordAt s st)
+pub record_after : (n s : ℕ) (st : State) (c : On Ask)
+    → record_at s (after desks n st c)
+    ≡ cond (eqb c.side s) (desk n c.side (record_at c.side st) st.store c.call).answer.rec
+    (record_at s st)
 unfolding hosted
-record-after n s st c = go (eqb c.side s) refl
+record_after n s st c = go (eqb c.side s) refl
   where
     ns : List ℕ
     ns = st.numbers c.side
 
     a : Answer
-    a = (desk n c.side (recordIn c.side ns) st.store c.call).answer
+    a = (desk n c.side (record_in c.side ns) st.store c.call).answer
 
-    own : recordIn c.side (handedBack c.side a ns) ≡ a.rec
-    own = handed c.side ns a (λ p. (refused-keeps n c.side (recordIn c.side ns) st.store c.call p).0)
+    own : record_in c.side (handed_back c.side a ns) ≡ a.rec
+    own = handed c.side ns a (λ p. (refused_keeps n c.side (record_in c.side ns) st.store c.call p).0)
 
     go : (t : Bool) → eqb c.side s ≡ t
-        → recordIn s (cond t (handedBack c.side a ns) (st.numbers s)) ≡ cond t a.rec (recordAt s st)
-    go true e = ap (λ (k : ℕ). recordIn k (handedBack c.side a ns)) (sym (eqb-true c.side s e)) ∙ own
+        → record_in s (cond t (handed_back c.side a ns) (st.numbers s)) ≡ cond t a.rec (record_at s st)
+    go true e = ap (λ (k : ℕ). record_in k (handed_back c.side a ns)) (sym (eqb-true c.side s e)) ∙ own
     go false e = refl
 
-pub store-after : (n : ℕ) (st : State) (c : On Ask)
-    → (after desks n st c).store ≡ (desk n c.side (recordAt c.side st) st.store c.call).kept
+pub store_after : (n : ℕ) (st : State) (c : On Ask)
+    → (after desks n st c).store ≡ (desk n c.side (record_at c.side st) st.store c.call).kept
 unfolding hosted
-store-after n st c = refl
+store_after n st c = refl
 
 -- ---- calls that are made of them
 
 module _ {C : Type 0} (serve : Kind C) (asksOf : Made C) (n : ℕ) where
   pub expanding : ((st : State) (side : ℕ) (c : C)
       → after serve n st (on side c)
-      ≡ ended desks n st (map (on side) (asksOf n side (recordAt side st) st.store c)))
+      ≡ ended desks n st (map (on side) (asksOf n side (record_at side st) st.store c)))
       → Expands serve asksOf n
   unfolding ended expand
   expanding made st [] = refl
   expanding made st (c ∷ calls) =
-      let first = map (on c.side) (asksOf n c.side (recordAt c.side st) st.store c.call) in
+      let first = map (on c.side) (asksOf n c.side (record_at c.side st) st.store c.call) in
       let rest = expand serve asksOf n (after serve n st c) calls in
       expanding made (after serve n st c) calls
       ∙ ap (λ (x : State). ended desks n x rest) (made st c.side c.call)

@@ -9,13 +9,13 @@ use Rattle.rules.specs.F32.{zeros}
 use Rattle.frame.specs.Share.{SHARE}
 use Rattle.desk.specs.Gate.{side_of}
 use Rattle.desk.specs.Desk.{closed}
-use Rattle.desk.specs.Surface.{numbersOf, recordIn}
+use Rattle.desk.specs.Surface.{numbers_of, record_in}
 use Rattle.isolation.specs.Local.{Local, performed}
 use Rattle.isolation.specs.Run.{Returned, Kind, On, on, State, received}
 
 -- The state at the start: a closed record for each bench, and a store with any content.
-abbrev pub allZeros : List Float → State
-allZeros store = record { numbers = λ s. numbersOf s closed; store = store }
+abbrev pub all_zeros : List Float → State
+all_zeros store = record { numbers = λ s. numbers_of s closed; store = store }
 
 -- The calls on bench s, in order.
 unfoldable pub own : {C : Type 0} → ℕ → List (On C) → List C
@@ -24,12 +24,12 @@ own s (c ∷ cs) = cond (eqb c.side s) (c.call ∷ own s cs) (own s cs)
 
 -- A record of another bench as the same record of bench s. The last of the twelve numbers is the bench plus 1, or 0 for
 -- a closed record; the other eleven do not depend on the bench.
-abbrev pub ofBench : ℕ → List ℕ → List ℕ
-ofBench s ns = take 11 ns ++ (cond (eqb (get_or ns 11 0) 0) 0 (s + 1) ∷ [])
+abbrev pub of_bench : ℕ → List ℕ → List ℕ
+of_bench s ns = take 11 ns ++ (cond (eqb (get_or ns 11 0) 0) 0 (s + 1) ∷ [])
 
 -- What bench 0 received, as bench s would receive it: only the bench in the record differs.
-abbrev pub asBench : ℕ → Returned → Returned
-asBench s r = record { number = r.number; numbers = ofBench s r.numbers; written = r.written }
+abbrev pub as_bench : ℕ → Returned → Returned
+as_bench s r = record { number = r.number; numbers = of_bench s r.numbers; written = r.written }
 
 module _ {C : Type 0} (serve : Kind C) where
   -- What these calls give bench s when it is alone. They are made on a desk of two benches, one left and one right,
@@ -37,20 +37,20 @@ module _ {C : Type 0} (serve : Kind C) where
   -- the number of bench s.
   unfoldable pub alone : ℕ → List C → List Returned
   alone s calls =
-      map (asBench s) (received serve 2 (side_of s) (allZeros (zeros (2 * SHARE))) (map (on (side_of s)) calls))
+      map (as_bench s) (received serve 2 (side_of s) (all_zeros (zeros (2 * SHARE))) (map (on (side_of s)) calls))
 
   -- The law, for n benches: whatever else is called, bench s receives what its own calls alone give it.
   abbrev pub Isolated : ℕ → Type 0
   Isolated n =
       (s : ℕ) → s < n → (store : List Float) → length store ≡ n * SHARE
-      → (calls : List (On C)) → received serve n s (allZeros store) calls ≡ alone s (own s calls)
+      → (calls : List (On C)) → received serve n s (all_zeros store) calls ≡ alone s (own s calls)
 
   -- It follows that two runs with the same calls on bench s give it the same, whatever else differs between them.
   abbrev pub Undisturbed : ℕ → Type 0
   Undisturbed n =
       (s : ℕ) → s < n → (store store' : List Float) → length store ≡ n * SHARE → length store' ≡ n * SHARE
       → (calls calls' : List (On C)) → own s calls ≡ own s calls'
-      → received serve n s (allZeros store) calls ≡ received serve n s (allZeros store') calls'
+      → received serve n s (all_zeros store) calls ≡ received serve n s (all_zeros store') calls'
 
   -- A kind of calls in which each call sees nothing but its own bench.
   pub record Owned : Type 0 where
@@ -58,7 +58,7 @@ module _ {C : Type 0} (serve : Kind C) where
     pub local : C → Local
     -- To serve the call is to do that, and nothing more.
     pub does : (n side : ℕ) (ns : List ℕ) (store : List Float) (c : C)
-        → serve n side ns store c ≡ performed n side (recordIn side ns) store (local c)
+        → serve n side ns store c ≡ performed n side (record_in side ns) store (local c)
 
 -- The law holds for every kind of calls that is owned, and for any number of benches.
 abbrev pub OwnedIsApart : Type 1

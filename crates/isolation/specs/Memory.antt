@@ -12,14 +12,14 @@ use Rattle.frame.specs.declared.Reply.TheVariants.{Heard}
 use Rattle.frame.specs.Share.{SHARE}
 use Rattle.desk.specs.Gate.{share_of}
 use Rattle.desk.specs.Desk.{Ask, call_of}
-use Rattle.memory.specs.Hear.{Recalled, blank, heardAll, faded}
-use Rattle.memory.specs.Brought.{recalledIn}
-use Rattle.isolation.specs.Run.{Kind, On, State, recordAt, after, ended, desks, Made, expand, Expands}
-use Rattle.isolation.specs.Numbering.{replied, framesHeard, Unopened, Opened, Numbering}
+use Rattle.memory.specs.Hear.{Recalled, blank, heard_all, faded}
+use Rattle.memory.specs.Brought.{recalled_in}
+use Rattle.isolation.specs.Run.{Kind, On, State, record_at, after, ended, desks, Made, expand, Expands}
+use Rattle.isolation.specs.Numbering.{replied, frames_heard, Unopened, Opened, Numbering}
 
 -- What bench s remembers, in its share and in its record.
 abbrev pub recalled : ℕ → State → Recalled
-recalled s st = recalledIn (recordAt s st).hearing.index (get (share_of s) st.store)
+recalled s st = recalled_in (record_at s st).hearing.index (get (share_of s) st.store)
 
 -- A call of the desk on bench s that does not hear anything leaves its memory unchanged, unless it is an opening.
 abbrev pub SilentLeaves : ℕ → Type 0
@@ -40,7 +40,7 @@ module _ {C : Type 0} (serve : Kind C) (asksOf : Made C) (n : ℕ) where
       → (calls : List (On C))
       → let asks = expand serve asksOf n st calls in
       Unopened n s st asks
-      → recalled s (ended serve n st calls) ≡ heardAll blank (framesHeard n s st asks)
+      → recalled s (ended serve n st calls) ≡ heard_all blank (frames_heard n s st asks)
 
   -- A state that an opening of bench s and then any calls led to.
   pub record Since (s : ℕ) (st : State) : Type 0 where
@@ -61,7 +61,7 @@ module _ {C : Type 0} (serve : Kind C) (asksOf : Made C) (n : ℕ) where
       → (calls : List (On C))
       → let asks = expand serve asksOf n st calls in
       Unopened n s st asks
-      → let k = length (framesHeard n s st asks) in
+      → let k = length (frames_heard n s st asks) in
       let last = recalled s (ended serve n st calls) in
       ((i : ℕ) → i < 22 → le (faded k (at (recalled s st).gains i)) (at last.gains i) ≡ true)
       × (k ≡ 0 → last ≡ recalled s st)

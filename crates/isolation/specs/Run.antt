@@ -6,7 +6,7 @@ use Rattle.frame.specs.Written.{Written}
 use Rattle.desk.specs.declared.Answer.{Answer}
 use Rattle.desk.specs.declared.Record.{Record}
 use Rattle.desk.specs.Desk.{Ask}
-use Rattle.desk.specs.Surface.{recordIn, replyNumber, handedBack, hosted}
+use Rattle.desk.specs.Surface.{record_in, reply_number, handed_back, hosted}
 
 -- What a host receives of a call.
 pub record Returned : Type 0 where
@@ -21,7 +21,7 @@ pub record Returned : Type 0 where
 -- unchanged.
 abbrev pub returned : ℕ → List ℕ → Effect Answer → Returned
 returned side ns o =
-    record { number = replyNumber o.answer.reply; numbers = handedBack side o.answer ns; written = o.written }
+    record { number = reply_number o.answer.reply; numbers = handed_back side o.answer ns; written = o.written }
 
 -- A kind of calls: what a call gives on one of n benches, with the bench's record and the store.
 abbrev pub Kind : Type 0 → Type 0
@@ -46,8 +46,8 @@ pub record State : Type 0 where
   pub store : List Float
 
 -- The record of bench s.
-abbrev pub recordAt : ℕ → State → Record
-recordAt s st = recordIn s (st.numbers s)
+abbrev pub record_at : ℕ → State → Record
+record_at s st = record_in s (st.numbers s)
 
 module _ {C : Type 0} (serve : Kind C) (n : ℕ) where
   -- What a call gives in a state.
@@ -94,7 +94,7 @@ module _ {C : Type 0} (serve : Kind C) (asksOf : Made C) (n : ℕ) where
   unfoldable pub expand : State → List (On C) → List (On Ask)
   expand st [] = []
   expand st (c ∷ cs) =
-      map (on c.side) (asksOf n c.side (recordAt c.side st) st.store c.call)
+      map (on c.side) (asksOf n c.side (record_at c.side st) st.store c.call)
       ++ expand (after serve n st c) cs
 
   -- A run ends in the same state as the run of the desk's calls that it is made of. So what holds for any run of the

@@ -3,29 +3,29 @@ use Rattle.rules.proofs.Common.{ℕ, ◌-◌, ◌*◌, ◌<◌, List, ◌≡◌,
 use native.Mathlib.Omega.{arith}
 use Rattle.rules.specs.Leaf.{Leaf}
 use Rattle.rules.proofs.Refusals.{fitting}
-use Rattle.pitch.specs.Xcorr.{pitchXcorr}
-use Rattle.pitch_search.specs.Best.{bestOf, first_of, BestFits}
+use Rattle.pitch.specs.Xcorr.{pitch_xcorr}
+use Rattle.pitch_search.specs.Best.{best_of, first_of, BestFits}
 use Rattle.pitch.specs.Downsample.{downsampled}
 use Rattle.pitch_search.specs.declared.Pitches.{Pitches}
-use Rattle.lag.specs.Lag.{correlations, firstPitch, ownLag}
-use Rattle.lag.proofs.Ranges.{length-correlations, pitch-small}
+use Rattle.lag.specs.Lag.{correlations, first_pitch, own_lag}
+use Rattle.lag.proofs.Ranges.{length_correlations, pitch_small}
 
-pub correlated : (low : List Float) {xcorr : List Float} {n : ℕ} → xcorr ≡ pitchXcorr (take 480 (drop 384 low)) low n
+pub correlated : (low : List Float) {xcorr : List Float} {n : ℕ} → xcorr ≡ pitch_xcorr (take 480 (drop 384 low)) low n
     → n ≡ 294 → xcorr ≡ correlations low
 unfolding correlations
-correlated low e size = e ∙ ap (pitchXcorr (take 480 (drop 384 low)) low) size
+correlated low e size = e ∙ ap (pitch_xcorr (take 480 (drop 384 low)) low) size
 
 pub picked : (low : List Float) {xcorr : List Float} {p : ℕ} {found : Pitches} → p ≡ first_of found
-    → Leaf (BestFits (length xcorr) (length low) 480) found (bestOf xcorr low 480) (Pitches.Refused 5)
-    → xcorr ≡ correlations low → length low ≡ 864 → p ≡ firstPitch low
+    → Leaf (BestFits (length xcorr) (length low) 480) found (best_of xcorr low 480) (Pitches.Refused 5)
+    → xcorr ≡ correlations low → length low ≡ 864 → p ≡ first_pitch low
 picked low e leaf same size =
-    let count = ap length same ∙ length-correlations low in
+    let count = ap length same ∙ length_correlations low in
     e ∙ ap first_of (fitting leaf (record { enough = omega (arith, count, size) }))
-    ∙ ap (λ (x : List Float). first_of (bestOf x low 480)) same
+    ∙ ap (λ (x : List Float). first_of (best_of x low 480)) same
 
-pub small_of : (low : List Float) {p : ℕ} → p ≡ firstPitch low → p < 294
-small_of low e = rw e (pitch-small low)
+pub small_of : (low : List Float) {p : ℕ} → p ≡ first_pitch low → p < 294
+small_of low e = rw e (pitch_small low)
 
-pub lagged : (mem low : List Float) {p : ℕ} → p ≡ firstPitch low → low ≡ downsampled mem → 768 - 2 * p ≡ ownLag mem
-unfolding ownLag
+pub lagged : (mem low : List Float) {p : ℕ} → p ≡ first_pitch low → low ≡ downsampled mem → 768 - 2 * p ≡ own_lag mem
+unfolding own_lag
 lagged mem low e same = rw (e, same)

@@ -2,7 +2,7 @@
 // rule is our own: it is simpler than `PitchFinder::process` of nnnoiseless.
 ghost use Rattle.std.specs.Prelude.{◌≡◌, length};
 ghost use Rattle.rules.specs.Leaf.{Leaf};
-ghost use Rattle.lag.specs.Lag.{correlations, firstPitch, ownLag, ownNumber, lagIn};
+ghost use Rattle.lag.specs.Lag.{correlations, first_pitch, own_lag, own_number, lag_in};
 
 // The answer of `lag_of`.
 #[derive(Drop)]
@@ -16,7 +16,7 @@ pub enum OwnLag {
 impl OwnLag {
     // 0, or the number of the refusal.
     pub fn number(self) -> u32
-        ensures { result ≡ ownNumber self }
+        ensures { result ≡ own_number self }
     {
         match self {
             OwnLag::Lag(_) => 0,
@@ -26,7 +26,7 @@ impl OwnLag {
 
     // The lag, or 0 if it was refused.
     pub fn lag(self) -> usize
-        ensures { result ≡ lagIn self }
+        ensures { result ≡ lag_in self }
     {
         match self {
             OwnLag::Lag(lag) => lag,
@@ -46,7 +46,7 @@ fn correlate(xcorr: &mut [f32], low: &[f32])
 // The best of these offsets.
 fn first_pitch(low: &[f32]) -> usize
     requires { length low.now ≡ 864 }
-    ensures { result ≡ firstPitch low.now }
+    ensures { result ≡ first_pitch low.now }
 {
     let mut xcorr = [0.0f32; 294];
     correlate(&mut xcorr, low);
@@ -56,7 +56,7 @@ fn first_pitch(low: &[f32]) -> usize
 // `lag_of` for an input memory of the right length.
 fn lag_core(input_mem: &[f32]) -> usize
     requires { length input_mem.now ≡ 1728 }
-    ensures { result ≡ ownLag input_mem.now }
+    ensures { result ≡ own_lag input_mem.now }
 {
     let mut low = [0.0f32; 864];
     pitch::pitch_downsample(input_mem, &mut low);
@@ -65,7 +65,7 @@ fn lag_core(input_mem: &[f32]) -> usize
 
 // The lag of the 1,728 samples that a bench remembers of its input. Refuses another length with 5.
 pub fn lag_of(input_mem: &[f32]) -> OwnLag
-    ensures { Leaf (length input_mem.now ≡ 1728) result (OwnLag.Lag (ownLag input_mem.now))
+    ensures { Leaf (length input_mem.now ≡ 1728) result (OwnLag.Lag (own_lag input_mem.now))
         (OwnLag.Refused 5) }
 {
     if input_mem.len() != 1728 {

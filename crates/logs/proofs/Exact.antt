@@ -16,27 +16,27 @@ use lib.Ieee.Digits.{size-le}
 use lib.Ieee.Exact.{HasValue}
 use lib.Ieee.Fits.{fits_widens, down_pos}
 use lib.Ieee.Positive.{positive}
-use Rattle.numbers.proofs.Held.{fits-says, place}
-use Rattle.numbers.proofs.Pattern.{pattern-value}
+use Rattle.numbers.proofs.Held.{fits_says, place}
+use Rattle.numbers.proofs.Pattern.{pattern_value}
 use Rattle.rules.specs.F64.{f64, ◌*₆₄◌}
-use Rattle.logs.specs.Tables.{row_at, twoHigh}
-use Rattle.logs.specs.Log10.{exponentOf, mantissaOf, row_of, offCentre, high_of}
-use Rattle.logs.specs.Exact.{Exactly, wholes, digitsOf, RestExact, HighExact, Exact, Claim}
-use Rattle.logs.proofs.Rule.{rule, two-rule}
-use Rattle.logs.proofs.Wholes.{product-exact, sum-exact, difference-exact, abs-sum, abs-difference, abs-product}
+use Rattle.logs.specs.Tables.{row_at, two_high}
+use Rattle.logs.specs.Log10.{exponent_of, mantissa_of, row_of, off_centre, high_of}
+use Rattle.logs.specs.Exact.{Exactly, wholes, digits_of, RestExact, HighExact, Exact, Claim}
+use Rattle.logs.proofs.Rule.{rule, two_rule}
+use Rattle.logs.proofs.Wholes.{product_exact, sum_exact, difference_exact, abs_sum, abs_difference, abs_product}
 
 -- the place is one of the table's
 placed : (bits : ℕ) → row_of bits < 33
 placed bits = omega arith
 
 -- ---- the constants 1 and 1023
-one-exact : Exactly (f64 0x3FF0000000000000) (pos (2 ^ 43)) (2 ^ 43)
+one_exact : Exactly (f64 0x3FF0000000000000) (pos (2 ^ 43)) (2 ^ 43)
 unfolding of_bits
-one-exact = (refl, refl)
+one_exact = (refl, refl)
 
-bias-exact : Exactly (f64 0x408FF80000000000) (pos 1023) (2 ^ 0)
+bias_exact : Exactly (f64 0x408FF80000000000) (pos 1023) (2 ^ 0)
 unfolding of_bits
-bias-exact = (refl, refl)
+bias_exact = (refl, refl)
 
 -- ---- m
 -- from one fraction to another of the same size
@@ -51,61 +51,61 @@ rescaled (fin t m e) s w l n d p h v = (
 )
 
 module _ (bits : ℕ) (short : bits % 2 ^ 29 ≡ 0) where
-  mantissa-exact : Exactly (mantissaOf bits) (pos (digitsOf bits)) (2 ^ 23)
-  mantissa-exact =
+  mantissa_exact : Exactly (mantissa_of bits) (pos (digits_of bits)) (2 ^ 23)
+  mantissa_exact =
       let d = bits % 2 ^ 52 in
-      let all : 2 ^ 52 + d ≡ digitsOf bits * 2 ^ 29 = omega arith in
+      let all : 2 ^ 52 + d ≡ digits_of bits * 2 ^ 29 = omega arith in
       let joined : 0 + (1022 * 2 ^ 52 + (2 ^ 52 + d)) ≡ 0x3FF0000000000000 + d = omega arith in
-      rescaled (mantissaOf bits) false ((2 ^ 52 + d) * 2 ^ 1022) (2 ^ 1074) (digitsOf bits) (2 ^ 23) (pow_pos 1074)
+      rescaled (mantissa_of bits) false ((2 ^ 52 + d) * 2 ^ 1022) (2 ^ 1074) (digits_of bits) (2 ^ 23) (pow_pos 1074)
       (sym (ap (λ (k : ℕ). k * 2 ^ 1022 * 2 ^ 23) all
-      ∙ ap (λ (k : ℕ). k * 2 ^ 23) (mul_assoc (digitsOf bits) (2 ^ 29) (2 ^ 1022))
-      ∙ mul_assoc (digitsOf bits) (2 ^ 29 * 2 ^ 1022) (2 ^ 23)))
+      ∙ ap (λ (k : ℕ). k * 2 ^ 23) (mul_assoc (digits_of bits) (2 ^ 29) (2 ^ 1022))
+      ∙ mul_assoc (digits_of bits) (2 ^ 29 * 2 ^ 1022) (2 ^ 23)))
       (subst (λ (k : ℕ). HasValue (of_bits binary64 k) false ((2 ^ 52 + d) * 2 ^ 1022) (2 ^ 1074)) joined
-      (pattern-value binary64 false (2 ^ 52 + d) 1022 (omega arith, λ K. omega arith)
+      (pattern_value binary64 false (2 ^ 52 + d) 1022 (omega arith, λ K. omega arith)
       (lt_of_lt_of_le (shl_lt 53 1022 (omega arith)) (pow_mono {i = 53 + 1022} {j = 2098} (lit≤ tt)))))
 
-  pub rest-exact : RestExact bits
-  unfolding offCentre
-  rest-exact =
+  pub rest_exact : RestExact bits
+  unfolding off_centre
+  rest_exact =
       let i = row_of bits in
       let c = (rule i (placed bits)).centre in
-      let m = digitsOf bits in
+      let m = digits_of bits in
       let n = wholes 20 (row_at i).centre in
-      let m-lt : m ≤ 2 ^ 24 = omega arith in
-      let small : m * n ≤ 2 ^ 24 * 2 ^ 20 = mul-le-mul m-lt c.to in
-      difference-exact (mantissaOf bits *₆₄ (row_at i).centre) (f64 0x3FF0000000000000) (pos (m * n)) (2 ^ 43) 43
+      let m_lt : m ≤ 2 ^ 24 = omega arith in
+      let small : m * n ≤ 2 ^ 24 * 2 ^ 20 = mul-le-mul m_lt c.to in
+      difference_exact (mantissa_of bits *₆₄ (row_at i).centre) (f64 0x3FF0000000000000) (pos (m * n)) (2 ^ 43) 43
       (lit< tt)
-      (lt_of_le_of_lt (abs-difference (pos (m * n)) (2 ^ 43)) (omega arith)) (lit≤ tt)
-      (product-exact (mantissaOf bits) (row_at i).centre (pos m) n 23 20 (omega (arith, c.from)) (omega arith)
-      (lit≤ tt) mantissa-exact c.value)
-      one-exact
+      (lt_of_le_of_lt (abs_difference (pos (m * n)) (2 ^ 43)) (omega arith)) (lit≤ tt)
+      (product_exact (mantissa_of bits) (row_at i).centre (pos m) n 23 20 (omega (arith, c.from)) (omega arith)
+      (lit≤ tt) mantissa_exact c.value)
+      one_exact
 
 -- ---- e
 module _ (bits : ℕ) (wide : bits < 2 ^ 64) where
-  field-exact : Exactly (of_int binary64 (pos (bits / 2 ^ 52))) (pos (bits / 2 ^ 52)) (2 ^ 0)
+  field_exact : Exactly (of_int binary64 (pos (bits / 2 ^ 52))) (pos (bits / 2 ^ 52)) (2 ^ 0)
   unfolding of_int
-  field-exact = round_whole binary64 false (bits / 2 ^ 52) (omega arith)
+  field_exact = round_whole binary64 false (bits / 2 ^ 52) (omega arith)
 
-  exponent-exact : Exactly (exponentOf bits) (pos (bits / 2 ^ 52) -ℤ pos 1023) (2 ^ 0)
-  exponent-exact =
+  exponent_exact : Exactly (exponent_of bits) (pos (bits / 2 ^ 52) -ℤ pos 1023) (2 ^ 0)
+  exponent_exact =
       let k = bits / 2 ^ 52 in
-      difference-exact (of_int binary64 (pos k)) (f64 0x408FF80000000000) (pos k) 1023 0 (lit< tt)
-      (lt_of_le_of_lt (abs-difference (pos k) 1023) (omega arith)) (lit≤ tt) field-exact bias-exact
+      difference_exact (of_int binary64 (pos k)) (f64 0x408FF80000000000) (pos k) 1023 0 (lit< tt)
+      (lt_of_le_of_lt (abs_difference (pos k) 1023) (omega arith)) (lit≤ tt) field_exact bias_exact
 
-  pub high-exact : HighExact bits
+  pub high_exact : HighExact bits
   unfolding high_of
-  high-exact =
+  high_exact =
       let i = row_of bits in
       let z = pos (bits / 2 ^ 52) -ℤ pos 1023 in
-      let two = wholes 40 twoHigh in
+      let two = wholes 40 two_high in
       let h = (rule i (placed bits)).high in
-      let e-le : nat_abs z ≤ 2 ^ 13 = le_trans (abs-difference (pos (bits / 2 ^ 52)) 1023) (omega arith) in
-      let small : nat_abs z * two ≤ 2 ^ 13 * 2 ^ 39 = mul-le-mul e-le two-rule.to in
-      sum-exact (exponentOf bits *₆₄ twoHigh) (row_at i).high (z *ℤ pos two) (pos (wholes 40 (row_at i).high)) 40
-      (lt_of_le_of_lt (abs-sum (z *ℤ pos two) (pos (wholes 40 (row_at i).high)))
-      (omega (arith, abs-product z two, h.to))) (lit≤ tt)
-      (product-exact (exponentOf bits) twoHigh z two 0 40 two-rule.from (omega arith) (lit≤ tt) exponent-exact
-      two-rule.value)
+      let e_le : nat_abs z ≤ 2 ^ 13 = le_trans (abs_difference (pos (bits / 2 ^ 52)) 1023) (omega arith) in
+      let small : nat_abs z * two ≤ 2 ^ 13 * 2 ^ 39 = mul-le-mul e_le two_rule.to in
+      sum_exact (exponent_of bits *₆₄ two_high) (row_at i).high (z *ℤ pos two) (pos (wholes 40 (row_at i).high)) 40
+      (lt_of_le_of_lt (abs_sum (z *ℤ pos two) (pos (wholes 40 (row_at i).high)))
+      (omega (arith, abs_product z two, h.to))) (lit≤ tt)
+      (product_exact (exponent_of bits) two_high z two 0 40 two_rule.from (omega arith) (lit≤ tt) exponent_exact
+      two_rule.value)
       h.value
 
 -- ---- the bits of an f32 above zero, as an f64: the last 29 are zeros
@@ -129,17 +129,17 @@ units a u d i D h =
     ∙ ap (λ (x : ℕ). x * d) (mul_assoc a (2 ^ i) (2 ^ 925) ∙ ap (λ (x : ℕ). a * x) (sym (pow-add 2 i 925))))
     ∙ mul-div_cancel (a * 2 ^ (i + 925)) D
 
-ends-in-zeros : (k r q : ℕ) → r ≡ q * 2 ^ 29 → (0 + k * 2 ^ 52 + r) % 2 ^ 29 ≡ 0
-ends-in-zeros k r q h = omega arith
+ends_in_zeros : (k r q : ℕ) → r ≡ q * 2 ^ 29 → (0 + k * 2 ^ 52 + r) % 2 ^ 29 ≡ 0
+ends_in_zeros k r q h = omega arith
 
-zeros-behind : (x : Float) → T (fits binary32 x) → T (positive x) → to_bits binary64 x % 2 ^ 29 ≡ 0
+zeros_behind : (x : Float) → T (fits binary32 x) → T (positive x) → to_bits binary64 x % 2 ^ 29 ≡ 0
 unfolding to_bits
-zeros-behind nan held above = absurd above
-zeros-behind (inf s) held above = absurd above
-zeros-behind (fin true m e) held above = absurd above
-zeros-behind (fin false zero e) held above = absurd above
-zeros-behind (fin false (suc m) e) held above =
-    let says = fits-says binary32 false m e held in
+zeros_behind nan held above = absurd above
+zeros_behind (inf s) held above = absurd above
+zeros_behind (fin true m e) held above = absurd above
+zeros_behind (fin false zero e) held above = absurd above
+zeros_behind (fin false (suc m) e) held above =
+    let says = fits_says binary32 false m e held in
     let at = place 149 e says.1 in
     let j = at.0 + 925 in
     let n = suc m * up e * 2 ^ 1074 / down e in
@@ -147,16 +147,16 @@ zeros-behind (fin false (suc m) e) held above =
     let is : n ≡ suc m * 2 ^ j = units (suc m) (up e) (down e) at.0 (down_pos e) at.1 in
     let few : size n ≤ 24 + j =
     size-le n (24 + j) (subst (λ (x : ℕ). x < 2 ^ (24 + j)) (sym is) (shl_lt 24 j says.0)) in
-    ends-in-zeros k (n / 2 ^ k) (suc m * 2 ^ (j - k - 29))
+    ends_in_zeros k (n / 2 ^ k) (suc m * 2 ^ (j - k - 29))
     (ap (λ (x : ℕ). x / 2 ^ k) is ∙ shorter (suc m) k j (omega arith))
 
 exact : (x : Float) → T (fits binary32 x) → T (positive x) → Exact x
 exact x held above =
     let bits = to_bits binary64 x in
     record {
-      rest = rest-exact bits (zeros-behind x held above);
-      high = high-exact bits (to_bits-lt binary64 x (fits_widens x held));
+      rest = rest_exact bits (zeros_behind x held above);
+      high = high_exact bits (to_bits-lt binary64 x (fits_widens x held));
     }
 
 pub claim : Claim
-claim = record { ruled = rule; two = two-rule; exact = exact }
+claim = record { ruled = rule; two = two_rule; exact = exact }

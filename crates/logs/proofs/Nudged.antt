@@ -8,7 +8,7 @@ use native.Mathlib.Omega.{arith}
 use lib.Ieee.{fits, nan_bits, to_bits, eq, ne}
 use lib.Ieee.Bits.{to_bits-lt}
 use borrow.Author.Tests.{eq-eqb, ne_eqb}
-use Rattle.numbers.proofs.NoNan.{magnitude-le, real-pattern}
+use Rattle.numbers.proofs.NoNan.{magnitude_le, real_pattern}
 use Rattle.rules.specs.F64.{f64}
 use Rattle.logs.specs.Log10.{nudged}
 
@@ -20,13 +20,13 @@ module _ (t z : Float) where
   unfolding nudged to_bits
   broken e = rw e
 
-  pub off-middle : (bits % 2 ^ 29 ≡ 2 ^ 28 → ⊥) → nudged t z ≡ t
+  pub off_middle : (bits % 2 ^ 29 ≡ 2 ^ 28 → ⊥) → nudged t z ≡ t
   unfolding nudged
-  off-middle h = rw (ne_eqb (bits % 2 ^ 29) (2 ^ 28) h)
+  off_middle h = rw (ne_eqb (bits % 2 ^ 29) (2 ^ 28) h)
 
-  pub nothing-lost : eq z (f64 0) ≡ true → nudged t z ≡ t
+  pub nothing_lost : eq z (f64 0) ≡ true → nudged t z ≡ t
   unfolding nudged ne
-  nothing-lost h = rw h (go _ (eqb (bits % 2 ^ 29) (2 ^ 28)))
+  nothing_lost h = rw h (go _ (eqb (bits % 2 ^ 29) (2 ^ 28)))
     where
       go : (x : Float) (b : Bool) → cond (b && false) x t ≡ t
       go x true = refl
@@ -46,9 +46,9 @@ pub record Beside (t : Float) : Type 0 where
 pub beside : (t : Float) → T (fits binary64 t) → T (not (is_nan t)) → to_bits binary64 t % 2 ^ 29 ≡ 2 ^ 28 → Beside t
 beside t held real middle =
     let bits = to_bits binary64 t in
-    let within : bits % 2 ^ 63 ≤ 2047 * 2 ^ 52 = magnitude-le binary64 t held real in
+    let within : bits % 2 ^ 63 ≤ 2047 * 2 ^ 52 = magnitude_le binary64 t held real in
     record {
       room = omega (arith, to_bits-lt binary64 t held);
-      up = real-pattern binary64 (bits + 1) (omega arith);
-      down = real-pattern binary64 (bits - 1) (omega arith);
+      up = real_pattern binary64 (bits + 1) (omega arith);
+      down = real_pattern binary64 (bits - 1) (omega arith);
     }

@@ -8,7 +8,7 @@ use lib.Dec.{leb→le, eqb→eq}
 use lib.Ieee.{of_bits}
 use lib.Ieee.Fits.{and_l, and_r}
 use Rattle.rules.proofs.Tests.{at_each}
-use Rattle.logs.specs.Tables.{rowBits, rows, row_at, twoHigh}
+use Rattle.logs.specs.Tables.{row_bits, rows, row_at, two_high}
 use Rattle.logs.specs.Exact.{Grained, Rule}
 
 -- the test of `Grained`
@@ -38,7 +38,7 @@ passed p least most (fin false m e) t =
     }
 
 pub rule : (i : ℕ) → i < 33 → Rule i
-unfolding rows rowBits of_bits
+unfolding rows row_bits of_bits
 rule i h = record {
   centre =
       passed 20 (2 ^ 19) (2 ^ 20) (row_at i).centre
@@ -46,6 +46,6 @@ rule i h = record {
   high = passed 40 0 (2 ^ 39) (row_at i).high (at_each 33 (λ k. grained 40 0 (2 ^ 39) (row_at k).high) tt i h);
 }
 
-pub two-rule : Grained 40 1 (2 ^ 39) twoHigh
+pub two_rule : Grained 40 1 (2 ^ 39) two_high
 unfolding of_bits
-two-rule = passed 40 1 (2 ^ 39) twoHigh tt
+two_rule = passed 40 1 (2 ^ 39) two_high tt

@@ -26,14 +26,14 @@ rounds s n g small fine =
     ∙ sym (mul_assoc n (2 ^ (1074 - g)) (2 ^ g)))
 
 -- ---- the product
-product_at : (f : Format) (x y : Float) (s t : Bool) (a b c d : ℕ) → 0 < c → 0 < d → HasValue x s a c → HasValue y t b d
+product_at_lem : (f : Format) (x y : Float) (s t : Bool) (a b c d : ℕ) → 0 < c → 0 < d → HasValue x s a c → HasValue y t b d
     → mul f x y ≡ round f (unlike s t) (a * b) (c * d)
 unfolding mul
-product_at f nan y s t a b c d C D h k = absurd h
-product_at f (inf u) y s t a b c d C D h k = absurd h
-product_at f (fin u m e) nan s t a b c d C D h k = absurd k
-product_at f (fin u m e) (inf v) s t a b c d C D h k = absurd k
-product_at f (fin u m e) (fin v n w) s t a b c d C D h k =
+product_at_lem f nan y s t a b c d C D h k = absurd h
+product_at_lem f (inf u) y s t a b c d C D h k = absurd h
+product_at_lem f (fin u m e) nan s t a b c d C D h k = absurd k
+product_at_lem f (fin u m e) (inf v) s t a b c d C D h k = absurd k
+product_at_lem f (fin u m e) (fin v n w) s t a b c d C D h k =
     round_same f (unlike u v) (m * up e * (n * up w)) (down e * down w) (a * b) (c * d)
     (mul-pos (down_pos e) (down_pos w)) (mul-pos C D)
     (mul-mul-mul_comm (m * up e) (n * up w) c d ∙ ap (λ (z : ℕ). z * (n * up w * d)) h.1
@@ -41,35 +41,35 @@ product_at f (fin u m e) (fin v n w) s t a b c d C D h k =
     ∙ ap (λ (z : Bool). round f (unlike z v) (a * b) (c * d)) h.0
     ∙ ap (λ (z : Bool). round f (unlike s z) (a * b) (c * d)) k.0
 
-product-signed : (s t : Bool) (x y : Float) (a b g h : ℕ) → a * b < 2 ^ 53 → g + h ≤ 1074 → HasValue x s a (2 ^ g)
+product_signed : (s t : Bool) (x y : Float) (a b g h : ℕ) → a * b < 2 ^ 53 → g + h ≤ 1074 → HasValue x s a (2 ^ g)
     → HasValue y t b (2 ^ h)
     → HasValue (x *₆₄ y) (unlike s t) (a * b) (2 ^ (g + h))
-product-signed s t x y a b g h small fine p q =
+product_signed s t x y a b g h small fine p q =
     subst (λ (z : Float). HasValue z (unlike s t) (a * b) (2 ^ (g + h)))
     (ap (λ (z : ℕ). round binary64 (unlike s t) (a * b) z) (pow-add 2 g h)
-    ∙ sym (product_at binary64 x y s t a b (2 ^ g) (2 ^ h) (pow_pos g) (pow_pos h) p q))
+    ∙ sym (product_at_lem binary64 x y s t a b (2 ^ g) (2 ^ h) (pow_pos g) (pow_pos h) p q))
     (rounds (unlike s t) (a * b) (g + h) small fine)
 
-below-zero : (x : Float) (n c : ℕ) → 0 < n → HasValue x true n c → Exactly x (neg_ℤ (pos n)) c
-below-zero x zero c some h = absurd (lt_irrefl 0 some)
-below-zero x (suc n) c some h = h
+below_zero : (x : Float) (n c : ℕ) → 0 < n → HasValue x true n c → Exactly x (neg_ℤ (pos n)) c
+below_zero x zero c some h = absurd (lt_irrefl 0 some)
+below_zero x (suc n) c some h = h
 
 -- by a number above zero
-pub product-exact : (x y : Float) (z : ℤ) (n g h : ℕ) → 0 < n → nat_abs z * n < 2 ^ 53 → g + h ≤ 1074
+pub product_exact : (x y : Float) (z : ℤ) (n g h : ℕ) → 0 < n → nat_abs z * n < 2 ^ 53 → g + h ≤ 1074
     → Exactly x z (2 ^ g) → Exactly y (pos n) (2 ^ h)
     → Exactly (x *₆₄ y) (z *ℤ pos n) (2 ^ (g + h))
-product-exact x y (pos a) n g h some small fine p q = product-signed false false x y a n g h small fine p q
-product-exact x y (negsuc a) n g h some small fine p q =
-    below-zero (x *₆₄ y) (suc a * n) (2 ^ (g + h)) (mul-pos (zero-lt-suc a) some)
-    (product-signed true false x y (suc a) n g h small fine p q)
+product_exact x y (pos a) n g h some small fine p q = product_signed false false x y a n g h small fine p q
+product_exact x y (negsuc a) n g h some small fine p q =
+    below_zero (x *₆₄ y) (suc a * n) (2 ^ (g + h)) (mul-pos (zero-lt-suc a) some)
+    (product_signed true false x y (suc a) n g h small fine p q)
 
 -- ---- the sum, over one denominator
 module _ (A B a b C c : ℕ) (P : 0 < C) (p : 0 < c) (h : A * c ≡ a * C) (k : B * c ≡ b * C) where
-  crossed-sum : (A + B) * c ≡ (a + b) * C
-  crossed-sum = add-mul A B c ∙ ap (λ (z : ℕ). z + B * c) h ∙ ap (λ (z : ℕ). a * C + z) k ∙ sym (add-mul a b C)
+  crossed_sum : (A + B) * c ≡ (a + b) * C
+  crossed_sum = add-mul A B c ∙ ap (λ (z : ℕ). z + B * c) h ∙ ap (λ (z : ℕ). a * C + z) k ∙ sym (add-mul a b C)
 
-  crossed-less : (B - A) * c ≡ (b - a) * C
-  crossed-less =
+  crossed_less : (B - A) * c ≡ (b - a) * C
+  crossed_less =
       mul_comm (B - A) c
       ∙ mul-sub c B A
       ∙ ap (λ (z : ℕ). z - c * A) (mul_comm c B ∙ k ∙ mul_comm b C)
@@ -77,8 +77,8 @@ module _ (A B a b C c : ℕ) (P : 0 < C) (p : 0 < c) (h : A * c ≡ a * C) (k : 
       ∙ sym (mul-sub C b a)
       ∙ mul_comm C (b - a)
 
-  crossed-test : ltb A B ≡ ltb a b
-  crossed-test = go (ltb A B) refl
+  crossed_test : ltb A B ≡ ltb a b
+  crossed_test = go (ltb A B) refl
     where
       go : (t : Bool) → ltb A B ≡ t → ltb A B ≡ ltb a b
       go true e =
@@ -95,11 +95,11 @@ sum_same : (f : Format) (s t : Bool) (A B a b C c : ℕ) → 0 < C → 0 < c →
 unfolding sum
 sum_same f s t A B a b C c P p h k =
     rw (
-      crossed-test A B a b C c P p h k,
-      crossed-test B A b a C c P p k h,
-      round_same f s (A + B) C (a + b) c P p (crossed-sum A B a b C c P p h k),
-      round_same f t (B - A) C (b - a) c P p (crossed-less A B a b C c P p h k),
-      round_same f (s && ltb b a) (A - B) C (a - b) c P p (crossed-less B A b a C c P p k h),
+      crossed_test A B a b C c P p h k,
+      crossed_test B A b a C c P p k h,
+      round_same f s (A + B) C (a + b) c P p (crossed_sum A B a b C c P p h k),
+      round_same f t (B - A) C (b - a) c P p (crossed_less A B a b C c P p h k),
+      round_same f (s && ltb b a) (A - B) C (a - b) c P p (crossed_less B A b a C c P p k h),
     )
 
 add_at : (f : Format) (x y : Float) (s t : Bool) (a b c : ℕ) → 0 < c → HasValue x s a c → HasValue y t b c
@@ -164,20 +164,20 @@ both_below a b g small fine =
     subst (λ (k : ℕ). HasValue (round binary64 true k (2 ^ g)) true (suc (suc (a + b))) (2 ^ g)) all
     (rounds true (suc (suc (a + b))) g small fine)
 
-both-above : (a b g : ℕ) → a + b < 2 ^ 53 → g ≤ 1074
+both_above : (a b g : ℕ) → a + b < 2 ^ 53 → g ≤ 1074
     → Exactly (sum binary64 false a false b (2 ^ g)) (pos (a + b)) (2 ^ g)
 unfolding sum
-both-above a b g small fine = rounds false (a + b) g small fine
+both_above a b g small fine = rounds false (a + b) g small fine
 
-pub sum-exact : (x y : Float) (z w : ℤ) (g : ℕ) → nat_abs (z +ℤ w) < 2 ^ 53 → g ≤ 1074 → Exactly x z (2 ^ g)
+pub sum_exact : (x y : Float) (z w : ℤ) (g : ℕ) → nat_abs (z +ℤ w) < 2 ^ 53 → g ≤ 1074 → Exactly x z (2 ^ g)
     → Exactly y w (2 ^ g) → Exactly (x +₆₄ y) (z +ℤ w) (2 ^ g)
-sum-exact x y (pos a) (pos b) g small fine p q =
-    rw (add_at binary64 x y false false a b (2 ^ g) (pow_pos g) p q) (both-above a b g small fine)
-sum-exact x y (pos a) (negsuc b) g small fine p q =
+sum_exact x y (pos a) (pos b) g small fine p q =
+    rw (add_at binary64 x y false false a b (2 ^ g) (pow_pos g) p q) (both_above a b g small fine)
+sum_exact x y (pos a) (negsuc b) g small fine p q =
     rw (add_at binary64 x y false true a (suc b) (2 ^ g) (pow_pos g) p q) (apart a b g small fine)
-sum-exact x y (negsuc a) (pos b) g small fine p q =
+sum_exact x y (negsuc a) (pos b) g small fine p q =
     rw (add_at binary64 x y true false (suc a) b (2 ^ g) (pow_pos g) p q) (together a b g small fine)
-sum-exact x y (negsuc a) (negsuc b) g small fine p q =
+sum_exact x y (negsuc a) (negsuc b) g small fine p q =
     rw (add_at binary64 x y true true (suc a) (suc b) (2 ^ g) (pow_pos g) p q) (both_below a b g small fine)
 
 -- less a number above zero
@@ -187,35 +187,35 @@ negated nan n c h = absurd h
 negated (inf s) n c h = absurd h
 negated (fin s m e) n c h = (ap not h.0, h.1)
 
-pub difference-exact : (x y : Float) (z : ℤ) (n g : ℕ) → 0 < n → nat_abs (z -ℤ pos n) < 2 ^ 53 → g ≤ 1074
+pub difference_exact : (x y : Float) (z : ℤ) (n g : ℕ) → 0 < n → nat_abs (z -ℤ pos n) < 2 ^ 53 → g ≤ 1074
     → Exactly x z (2 ^ g) → Exactly y (pos n) (2 ^ g)
     → Exactly (x -₆₄ y) (z -ℤ pos n) (2 ^ g)
 unfolding sub
-difference-exact x y z zero g some small fine p q = absurd (lt_irrefl 0 some)
-difference-exact x y z (suc n) g some small fine p q =
-    sum-exact x (neg y) z (negsuc n) g small fine p (negated y (suc n) (2 ^ g) q)
+difference_exact x y z zero g some small fine p q = absurd (lt_irrefl 0 some)
+difference_exact x y z (suc n) g some small fine p q =
+    sum_exact x (neg y) z (negsuc n) g small fine p (negated y (suc n) (2 ^ g) q)
 
 -- ---- sizes
-abs-apart : (a b : ℕ) → nat_abs (sub_ℕ a b) ≤ a + b
-abs-apart a b = go (ltb a b) refl
+abs_apart : (a b : ℕ) → nat_abs (sub_ℕ a b) ≤ a + b
+abs_apart a b = go (ltb a b) refl
   where
     go : (t : Bool) → ltb a b ≡ t → nat_abs (cond t (negsuc (b - suc a)) (pos (a - b))) ≤ a + b
     go true e = omega (arith, ltb-true a b e)
     go false e = omega arith
 
-pub abs-sum : (z w : ℤ) → nat_abs (z +ℤ w) ≤ nat_abs z + nat_abs w
-abs-sum (pos a) (pos b) = omega arith
-abs-sum (pos a) (negsuc b) = abs-apart a (suc b)
-abs-sum (negsuc a) (pos b) = omega (arith, abs-apart b (suc a))
-abs-sum (negsuc a) (negsuc b) = omega arith
+pub abs_sum : (z w : ℤ) → nat_abs (z +ℤ w) ≤ nat_abs z + nat_abs w
+abs_sum (pos a) (pos b) = omega arith
+abs_sum (pos a) (negsuc b) = abs_apart a (suc b)
+abs_sum (negsuc a) (pos b) = omega (arith, abs_apart b (suc a))
+abs_sum (negsuc a) (negsuc b) = omega arith
 
 abs_neg : (n : ℕ) → nat_abs (neg_ℤ (pos n)) ≡ n
 abs_neg zero = refl
 abs_neg (suc n) = refl
 
-pub abs-difference : (z : ℤ) (n : ℕ) → nat_abs (z -ℤ pos n) ≤ nat_abs z + n
-abs-difference z n = omega (arith, abs-sum z (neg_ℤ (pos n)), abs_neg n)
+pub abs_difference : (z : ℤ) (n : ℕ) → nat_abs (z -ℤ pos n) ≤ nat_abs z + n
+abs_difference z n = omega (arith, abs_sum z (neg_ℤ (pos n)), abs_neg n)
 
-pub abs-product : (z : ℤ) (n : ℕ) → nat_abs (z *ℤ pos n) ≡ nat_abs z * n
-abs-product (pos a) n = refl
-abs-product (negsuc a) n = abs_neg (suc a * n)
+pub abs_product : (z : ℤ) (n : ℕ) → nat_abs (z *ℤ pos n) ≡ nat_abs z * n
+abs_product (pos a) n = refl
+abs_product (negsuc a) n = abs_neg (suc a * n)

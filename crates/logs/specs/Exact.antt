@@ -6,8 +6,8 @@ use Rattle.std.specs.Prelude.{T, ℤ, negsuc, ◌+ℤ◌, ◌-ℤ◌, ◌*ℤ◌
 use Rattle.std.specs.Float.Ieee.{fits, to_bits}
 use Rattle.std.specs.Float.Ieee.Exact.{HasValue}
 use Rattle.std.specs.Float.Ieee.Positive.{positive}
-use Rattle.logs.specs.Tables.{row_at, twoHigh}
-use Rattle.logs.specs.Log10.{row_of, offCentre, high_of}
+use Rattle.logs.specs.Tables.{row_at, two_high}
+use Rattle.logs.specs.Log10.{row_of, off_centre, high_of}
 
 -- x is exactly z / c.
 abbrev pub Exactly : Float → ℤ → ℕ → Type 0
@@ -38,18 +38,18 @@ pub record Rule (i : ℕ) : Type 0 where
 
 -- ---- m, of 24 digits, in whole numbers of 2^-23
 -- m as a whole number of 2^-23: an f32 has 24 binary digits.
-abbrev pub digitsOf : ℕ → ℕ
-digitsOf bits = 2 ^ 23 + bits % 2 ^ 52 / 2 ^ 29
+abbrev pub digits_of : ℕ → ℕ
+digits_of bits = 2 ^ 23 + bits % 2 ^ 52 / 2 ^ 29
 
 -- m * centre - 1 is exact if m has 24 digits.
 abbrev pub RestExact : ℕ → Type 0
 RestExact bits =
-    Exactly (offCentre bits) (pos (digitsOf bits * wholes 20 (row_at (row_of bits)).centre) -ℤ pos (2 ^ 43)) (2 ^ 43)
+    Exactly (off_centre bits) (pos (digits_of bits * wholes 20 (row_at (row_of bits)).centre) -ℤ pos (2 ^ 43)) (2 ^ 43)
 
 -- e * two_high + high is exact.
 abbrev pub HighExact : ℕ → Type 0
 HighExact bits =
-    Exactly (high_of bits) ((pos (bits / 2 ^ 52) -ℤ pos 1023) *ℤ pos (wholes 40 twoHigh) +ℤ pos
+    Exactly (high_of bits) ((pos (bits / 2 ^ 52) -ℤ pos 1023) *ℤ pos (wholes 40 two_high) +ℤ pos
     (wholes 40 (row_at (row_of bits)).high)) (2 ^ 40)
 
 -- Both steps are exact for one f32.
@@ -64,6 +64,6 @@ pub record Claim : Type 0 where
   -- The rule holds for each row.
   pub ruled : (i : ℕ) → i < 33 → Rule i
   -- log10(2) follows the same rule.
-  pub two : Grained 40 1 (2 ^ 39) twoHigh
+  pub two : Grained 40 1 (2 ^ 39) two_high
   -- Both steps are exact for every f32 above zero.
   pub exact : (x : Float) → T (fits binary32 x) → T (positive x) → Exact x

@@ -5,8 +5,8 @@ use Rattle.rules.specs.F64.{f64}
 use Rattle.logs.specs.declared.table.Row.{Row}
 
 -- 33 rows: a centre near 32 / (32 + i), of 20 binary digits, and the high and the low part of minus its logarithm
-unfoldable pub rowBits : List ℕ
-rowBits =
+unfoldable pub row_bits : List ℕ
+row_bits =
     0x3FF0000000000000 ∷ 0x0000000000000000 ∷ 0x0000000000000000 ∷
     0x3FEF07C200000000 ∷ 0x3F8B5E8ED1F80000 ∷ 0x3D486ACCF329C539 ∷
     0x3FEE1E1E00000000 ∷ 0x3F9AF5FAE7B80000 ∷ 0x3D43080E2105618F ∷
@@ -42,25 +42,25 @@ rowBits =
     0x3FE0000000000000 ∷ 0x3FD34413509F8000 ∷ 0xBD380433B83B532A ∷ []
 
 unfoldable pub rows : List Float
-unfolding rowBits of_bits
-rows = map f64 rowBits
+unfolding row_bits of_bits
+rows = map f64 row_bits
 
 abbrev pub row_at : ℕ → Row
 row_at i = record { centre = at rows (3 * i); high = at rows (3 * i + 1); low = at rows (3 * i + 2) }
 
 -- log10(2), 1 / ln(10), and the numbers of the series of log10(1 + r) from r^2 on
 
-abbrev pub twoHigh : Float
-twoHigh = f64 0x3FD34413509F8000
+abbrev pub two_high : Float
+two_high = f64 0x3FD34413509F8000
 
-abbrev pub twoLow : Float
-twoLow = f64 0xBD380433B83B532A
+abbrev pub two_low : Float
+two_low = f64 0xBD380433B83B532A
 
-abbrev pub slopeHigh : Float
-slopeHigh = f64 0x3FDBCB7B20000000
+abbrev pub slope_high : Float
+slope_high = f64 0x3FDBCB7B20000000
 
-abbrev pub slopeLow : Float
-slopeLow = f64 0xBE45B235E39AB2A9
+abbrev pub slope_low : Float
+slope_low = f64 0xBE45B235E39AB2A9
 
 abbrev pub series2 : Float
 series2 = f64 0xBFCBCB7B1526E50E

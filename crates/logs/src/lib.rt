@@ -6,7 +6,7 @@
 ghost use Rattle.std.specs.Prelude.{◌≡◌, length};
 ghost use Rattle.rules.specs.Leaf.{Leaf, ◌leaving◌};
 ghost use Rattle.rules.specs.F64.{◌-₆₄◌};
-ghost use Rattle.logs.specs.Log10.{series, lostOf, nudged, summed, logOfBits, log10Of, logs_of, LogsFits};
+ghost use Rattle.logs.specs.Log10.{series, lost_of, nudged, summed, log_of_bits, log10_of, logs_of, LogsFits};
 
 pub mod table;
 
@@ -26,7 +26,7 @@ fn series_of(r: f64) -> f64
 
 // What rounding lost in s = hi + p.
 fn lost_of(hi: f64, p: f64, s: f64) -> f64
-    ensures { result ≡ lostOf hi p s }
+    ensures { result ≡ lost_of hi p s }
 {
     let back = s - hi;
     (hi - (s - back)) + (p - back)
@@ -66,7 +66,7 @@ fn sum_of(hi: f64, lo: f64, r: f64) -> f64
 
 // The logarithm of the number with these bits: a normal f64 above 0.
 fn log_of_bits(bits: u64) -> f64
-    ensures { result ≡ logOfBits bits }
+    ensures { result ≡ log_of_bits bits }
 {
     let digits: u64 = bits % LEAD;
     let e = (bits >> 52) as f64 - 1023.0;
@@ -79,7 +79,7 @@ fn log_of_bits(bits: u64) -> f64
 
 // The logarithm to base 10. Both zeros give minus infinity, and a number below zero gives a NaN.
 pub fn log10(x: f32) -> f32
-    ensures { result ≡ log10Of x }
+    ensures { result ≡ log10_of x }
 {
     if x > 0.0 {
         if x == 1.0 / 0.0 {
@@ -93,9 +93,9 @@ pub fn log10(x: f32) -> f32
 // The logarithms of the 22 sums. Refuses another length of either with 5.
 pub fn logs(out: &mut [f32], sums: &[f32]) -> u32
     ensures { Leaf (LogsFits (length out.old) (length sums.now))
-        (result leaving (λ x. x.now) out.exit)
+        (result leaving out.new)
         (0 leaving logs_of sums.now)
-        (5 leaving (λ x. x.now) out.entry) }
+        (5 leaving out.old) }
 {
     if out.len() != 22 {
         return 5;

@@ -2,15 +2,15 @@
 use Rattle.rules.proofs.Common.{ℕ, ◌+◌, ◌*◌, List, ◌≡◌, length, length-set, Float}
 use Rattle.rules.specs.F32.{at, part}
 use Rattle.rules.proofs.Loops.{same_length}
-use Rattle.matrix.specs.Sums.{columnStep, addColumn, mulStep, mulAdd}
+use Rattle.matrix.specs.Sums.{column_step, add_column, mul_step, mul_add}
 
-pub length-addColumn : (out : List Float) (col : List ℕ) (x : Float) → length (addColumn out col x) ≡ length out
-length-addColumn out col x = same_length (columnStep col x) (λ j s. simp length-set) (length out) out
+pub length_add_column : (out : List Float) (col : List ℕ) (x : Float) → length (add_column out col x) ≡ length out
+length_add_column out col x = same_length (column_step col x) (λ j s. simp length-set) (length out) out
 
-pub length-mulAdd : (out : List Float) (weights : List ℕ) (stride offset : ℕ) (input : List Float)
-    → length (mulAdd out weights stride offset input) ≡ length out
-unfolding mulAdd
-length-mulAdd out weights stride offset input =
-    same_length (mulStep weights stride offset input)
-    (λ i s. length-addColumn s (part (i * stride + offset) (i * stride + stride) weights) (at input i))
+pub length_mul_add : (out : List Float) (weights : List ℕ) (stride offset : ℕ) (input : List Float)
+    → length (mul_add out weights stride offset input) ≡ length out
+unfolding mul_add
+length_mul_add out weights stride offset input =
+    same_length (mul_step weights stride offset input)
+    (λ i s. length_add_column s (part (i * stride + offset) (i * stride + stride) weights) (at input i))
     (length input) out

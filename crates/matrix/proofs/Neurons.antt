@@ -11,54 +11,54 @@ use Rattle.rules.specs.F32.{at, part, ◌⊕◌, ◌⊗◌}
 use Rattle.rules.specs.Loop.{loop}
 use Rattle.rules.specs.Tab.{tab}
 use Rattle.rules.proofs.Loops.{more, same_length}
-use Rattle.rules.proofs.Lists.{behind, length-tab, getD-tab, tab-same, tab-four-more}
-use Rattle.matrix.specs.Sums.{of_byte, addColumn, mulStep, mulAdd, MulAddFits}
-use Rattle.matrix.specs.Private.{addedAt, plusFour, plusSixteen, sixteenSums, fourAt, sixteenAt, neuron, spot}
-use Rattle.matrix.specs.Private.{storeFour}
+use Rattle.rules.proofs.Lists.{behind, length_tab, get_d_tab, tab_same, tab_four_more}
+use Rattle.matrix.specs.Sums.{of_byte, add_column, mul_step, mul_add, MulAddFits}
+use Rattle.matrix.specs.Private.{added_at, plus_four, plus_sixteen, sixteen_sums, four_at, sixteen_at, neuron, spot}
+use Rattle.matrix.specs.Private.{store_four}
 use Rattle.matrix.specs.declared.lanes.Sixteen.{Sixteen}
-use Rattle.matrix.proofs.Columns.{byte-of}
-use Rattle.matrix.proofs.Lengths.{length-addColumn, length-mulAdd}
+use Rattle.matrix.proofs.Columns.{byte_of_lem}
+use Rattle.matrix.proofs.Lengths.{length_add_column, length_mul_add}
 
 -- ---- the columns, at one place
-at-addColumn : (out : List Float) (col : List ℕ) (x : Float) (j : ℕ) → j < length out
-    → at (addColumn out col x) j ≡ at out j ⊕ of_byte (get_or col j 0) ⊗ x
-at-addColumn out col x j h = behind nan (λ k a. a ⊕ of_byte (get_or col k 0) ⊗ x) (length out) j out h (omega arith)
+at_add_column : (out : List Float) (col : List ℕ) (x : Float) (j : ℕ) → j < length out
+    → at (add_column out col x) j ≡ at out j ⊕ of_byte (get_or col j 0) ⊗ x
+at_add_column out col x j h = behind nan (λ k a. a ⊕ of_byte (get_or col k 0) ⊗ x) (length out) j out h (omega arith)
 
 module _ (weights : List ℕ) (stride offset : ℕ) (input out : List Float) where
-  columns-long : (n : ℕ) → length (loop n (mulStep weights stride offset input) out) ≡ length out
-  columns-long n =
-      same_length (mulStep weights stride offset input)
-      (λ i s. length-addColumn s (part (i * stride + offset) (i * stride + stride) weights) (at input i)) n out
+  columns_long : (n : ℕ) → length (loop n (mul_step weights stride offset input) out) ≡ length out
+  columns_long n =
+      same_length (mul_step weights stride offset input)
+      (λ i s. length_add_column s (part (i * stride + offset) (i * stride + stride) weights) (at input i)) n out
 
-  at-columns : (j n : ℕ) → j < length out → MulAddFits (length out) (length weights) stride offset (length input)
+  at_columns : (j n : ℕ) → j < length out → MulAddFits (length out) (length weights) stride offset (length input)
       → n ≤ length input
-      → at (loop n (mulStep weights stride offset input) out) j
-      ≡ loop n (λ i. addedAt weights (i * stride + offset + j) (at input i)) (at out j)
+      → at (loop n (mul_step weights stride offset input) out) j
+      ≡ loop n (λ i. added_at weights (i * stride + offset + j) (at input i)) (at out j)
   unfolding loop
-  at-columns j zero h fits r = refl
-  at-columns j (suc n) h fits r =
-      let l = loop n (mulStep weights stride offset input) out in
+  at_columns j zero h fits r = refl
+  at_columns j (suc n) h fits r =
+      let l = loop n (mul_step weights stride offset input) out in
       let rows = fits.rows in
-      at-addColumn l (part (n * stride + offset) (n * stride + stride) weights) (at input n) j (rw (columns-long n) h)
+      at_add_column l (part (n * stride + offset) (n * stride + stride) weights) (at input n) j (rw (columns_long n) h)
       ∙ rw (
-        byte-of weights (n * stride + offset) (n * stride + stride) j (omega arith),
-        at-columns j n h fits (omega arith),
+        byte_of_lem weights (n * stride + offset) (n * stride + stride) j (omega arith),
+        at_columns j n h fits (omega arith),
       )
 
-  at-mulAdd : (j : ℕ) → j < length out → MulAddFits (length out) (length weights) stride offset (length input)
-      → at (mulAdd out weights stride offset input) j ≡ neuron out weights stride offset input j
-  unfolding mulAdd neuron
-  at-mulAdd j h fits = at-columns j (length input) h fits (omega arith)
+  at_mul_add : (j : ℕ) → j < length out → MulAddFits (length out) (length weights) stride offset (length input)
+      → at (mul_add out weights stride offset input) j ≡ neuron out weights stride offset input j
+  unfolding mul_add neuron
+  at_mul_add j h fits = at_columns j (length input) h fits (omega arith)
 
-  pub mulAdd-tab : MulAddFits (length out) (length weights) stride offset (length input)
-      → mulAdd out weights stride offset input ≡ tab (length out) (neuron out weights stride offset input)
-  mulAdd-tab fits =
-      let long = length-mulAdd out weights stride offset input in
-      ext_get_or nan (mulAdd out weights stride offset input) (tab (length out) (neuron out weights stride offset input))
-      (long ∙ sym (length-tab (length out) _))
+  pub mul_add_tab : MulAddFits (length out) (length weights) stride offset (length input)
+      → mul_add out weights stride offset input ≡ tab (length out) (neuron out weights stride offset input)
+  mul_add_tab fits =
+      let long = length_mul_add out weights stride offset input in
+      ext_get_or nan (mul_add out weights stride offset input) (tab (length out) (neuron out weights stride offset input))
+      (long ∙ sym (length_tab (length out) _))
       (λ i h.
       let b : i < length out = rw long at h in
-      at-mulAdd i b fits ∙ sym (getD-tab (length out) (neuron out weights stride offset input) i nan b))
+      at_mul_add i b fits ∙ sym (get_d_tab (length out) (neuron out weights stride offset input) i nan b))
 
 -- ---- a part of what a loop carries
 seen : {S T : Type 0} (π : S → T) (f : ℕ → S → S) (g : ℕ → T → T) → ((i : ℕ) (s : S) → π (f i s) ≡ g i (π s))
@@ -69,71 +69,71 @@ seen π f g h (suc n) s = h n (loop n f s) ∙ ap (g n) (seen π f g h n s)
 
 -- ---- sixteen sums, input by input
 module _ (weights : List ℕ) (stride place : ℕ) (input : List Float) (s : Sixteen) where
-  pub sums_none : s ≡ sixteenSums weights stride place input 0 s
-  unfolding sixteenSums loop
+  pub sums_none : s ≡ sixteen_sums weights stride place input 0 s
+  unfolding sixteen_sums loop
   sums_none = refl
 
-  pub sums-more : (i : ℕ) {now next : Sixteen} → now ≡ sixteenSums weights stride place input i s
-      → next ≡ plusSixteen weights (i * stride + place) (at input i) now
-      → next ≡ sixteenSums weights stride place input (i + 1) s
-  unfolding sixteenSums
-  sums-more i e turn = more (λ k. plusSixteen weights (k * stride + place) (at input k)) s i e turn
+  pub sums_more : (i : ℕ) {now next : Sixteen} → now ≡ sixteen_sums weights stride place input i s
+      → next ≡ plus_sixteen weights (i * stride + place) (at input i) now
+      → next ≡ sixteen_sums weights stride place input (i + 1) s
+  unfolding sixteen_sums
+  sums_more i e turn = more (λ k. plus_sixteen weights (k * stride + place) (at input k)) s i e turn
 
-  pub sums-ended : (i n : ℕ) {now : Sixteen} → i ≤ n → n ≤ i → now ≡ sixteenSums weights stride place input i s
-      → now ≡ sixteenSums weights stride place input n s
-  sums-ended i n below above e = let same : i ≡ n = omega arith in rw same at e
+  pub sums_ended : (i n : ℕ) {now : Sixteen} → i ≤ n → n ≤ i → now ≡ sixteen_sums weights stride place input i s
+      → now ≡ sixteen_sums weights stride place input n s
+  sums_ended i n below above e = let same : i ≡ n = omega arith in rw same at e
 
 module _ (weights : List ℕ) (stride offset : ℕ) (input out : List Float) (a : ℕ) where
   abbrev pub block : Sixteen
-  block = sixteenSums weights stride (offset + a) input (length input) (sixteenAt out a)
+  block = sixteen_sums weights stride (offset + a) input (length input) (sixteen_at out a)
 
   -- sum d of sixteen, at e R of the weights from R on
   pub lane : (π : Sixteen → Float) (e : ℕ → ℕ) (d i : ℕ) → ((r : ℕ) → e r ≡ r + d)
-      → ((r : ℕ) (x : Float) (s : Sixteen) → π (plusSixteen weights r x s) ≡ addedAt weights (e r) x (π s))
-      → π (sixteenAt out a) ≡ at out (e a) → spot i ≡ a + d
+      → ((r : ℕ) (x : Float) (s : Sixteen) → π (plus_sixteen weights r x s) ≡ added_at weights (e r) x (π s))
+      → π (sixteen_at out a) ≡ at out (e a) → spot i ≡ a + d
       → π block ≡ neuron out weights stride offset input (spot i)
-  unfolding sixteenSums neuron
+  unfolding sixteen_sums neuron
   lane π e d i moved turn start here =
       let place : e a ≡ spot i = moved a ∙ sym here in
-      seen π (λ k. plusSixteen weights (k * stride + (offset + a)) (at input k))
-      (λ k. addedAt weights (k * stride + offset + spot i) (at input k))
+      seen π (λ k. plus_sixteen weights (k * stride + (offset + a)) (at input k))
+      (λ k. added_at weights (k * stride + offset + spot i) (at input k))
       (λ k s.
       let same : e (k * stride + (offset + a)) ≡ k * stride + offset + spot i =
       moved (k * stride + (offset + a)) ∙ omega arith in
-      turn (k * stride + (offset + a)) (at input k) s ∙ ap (λ (p : ℕ). addedAt weights p (at input k) (π s)) same)
-      (length input) (sixteenAt out a)
-      ∙ ap (loop (length input) (λ k. addedAt weights (k * stride + offset + spot i) (at input k)))
+      turn (k * stride + (offset + a)) (at input k) s ∙ ap (λ (p : ℕ). added_at weights p (at input k) (π s)) same)
+      (length input) (sixteen_at out a)
+      ∙ ap (loop (length input) (λ k. added_at weights (k * stride + offset + spot i) (at input k)))
       (start ∙ ap (at out) place)
 
 -- ---- lists that four stores lengthen, and lists of the same values
-pub four-stored : (f : ℕ → Float) (d m : List Float) (i : ℕ) {v w x y : Float} {next : List Float}
+pub four_stored : (f : ℕ → Float) (d m : List Float) (i : ℕ) {v w x y : Float} {next : List Float}
     → m ≡ tab i f ++ drop i d → i + 4 ≤ length d
-    → next ≡ storeFour m i v w x y → v ≡ f i → w ≡ f (i + 1) → x ≡ f (i + 2) → y ≡ f (i + 3)
+    → next ≡ store_four m i v w x y → v ≡ f i → w ≡ f (i + 1) → x ≡ f (i + 2) → y ≡ f (i + 3)
     → next ≡ tab (i + 4) f ++ drop (i + 4) d
-unfolding storeFour
-four-stored f d m i now room e p q r s = e ∙ tab-four-more f d m i now p q r s room
+unfolding store_four
+four_stored f d m i now room e p q r s = e ∙ tab_four_more f d m i now p q r s room
 
 -- sixteen in order again
-pub block-ordered : (kept out now : List Float) (a : ℕ) {m₁ m₂ m₃ m₄ : List Float} → a % 16 ≡ 0 → a + 16 ≤ length out
+pub block_ordered : (kept out now : List Float) (a : ℕ) {m₁ m₂ m₃ m₄ : List Float} → a % 16 ≡ 0 → a + 16 ≤ length out
     → now ≡ tab a (λ j. at kept (spot j)) ++ drop a out
-    → m₁ ≡ storeFour now a (at kept a) (at kept (a + 4)) (at kept (a + 8)) (at kept (a + 12))
-    → m₂ ≡ storeFour m₁ (a + 4) (at kept (a + 1)) (at kept (a + 1 + 4)) (at kept (a + 1 + 8)) (at kept (a + 1 + 12))
-    → m₃ ≡ storeFour m₂ (a + 4 + 4) (at kept (a + 2)) (at kept (a + 2 + 4)) (at kept (a + 2 + 8)) (at kept (a + 2 + 12))
-    → m₄ ≡ storeFour m₃ (a + 4 + 4 + 4) (at kept (a + 3)) (at kept (a + 3 + 4)) (at kept (a + 3 + 8))
+    → m₁ ≡ store_four now a (at kept a) (at kept (a + 4)) (at kept (a + 8)) (at kept (a + 12))
+    → m₂ ≡ store_four m₁ (a + 4) (at kept (a + 1)) (at kept (a + 1 + 4)) (at kept (a + 1 + 8)) (at kept (a + 1 + 12))
+    → m₃ ≡ store_four m₂ (a + 4 + 4) (at kept (a + 2)) (at kept (a + 2 + 4)) (at kept (a + 2 + 8)) (at kept (a + 2 + 12))
+    → m₄ ≡ store_four m₃ (a + 4 + 4 + 4) (at kept (a + 3)) (at kept (a + 3 + 4)) (at kept (a + 3 + 8))
     (at kept (a + 3 + 12))
     → m₄ ≡ tab (a + 4 + 4 + 4 + 4) (λ j. at kept (spot j)) ++ drop (a + 4 + 4 + 4 + 4) out
-block-ordered kept out now a even room e s₁ s₂ s₃ s₄ =
+block_ordered kept out now a even room e s₁ s₂ s₃ s₄ =
     let f : ℕ → Float = λ j. at kept (spot j) in
     let from : (k d : ℕ) → d ≡ spot k → at kept d ≡ f k = λ k d q. ap (at kept) q in
-    let e₁ = four-stored f out now a e (omega arith) s₁ (from a a (omega arith)) (from (a + 1) (a + 4) (omega arith))
+    let e₁ = four_stored f out now a e (omega arith) s₁ (from a a (omega arith)) (from (a + 1) (a + 4) (omega arith))
     (from (a + 2) (a + 8) (omega arith)) (from (a + 3) (a + 12) (omega arith)) in
-    let e₂ = four-stored f out _ (a + 4) e₁ (omega arith) s₂ (from (a + 4) (a + 1) (omega arith))
+    let e₂ = four_stored f out _ (a + 4) e₁ (omega arith) s₂ (from (a + 4) (a + 1) (omega arith))
     (from (a + 4 + 1) (a + 1 + 4) (omega arith)) (from (a + 4 + 2) (a + 1 + 8) (omega arith))
     (from (a + 4 + 3) (a + 1 + 12) (omega arith)) in
-    let e₃ = four-stored f out _ (a + 4 + 4) e₂ (omega arith) s₃ (from (a + 4 + 4) (a + 2) (omega arith))
+    let e₃ = four_stored f out _ (a + 4 + 4) e₂ (omega arith) s₃ (from (a + 4 + 4) (a + 2) (omega arith))
     (from (a + 4 + 4 + 1) (a + 2 + 4) (omega arith)) (from (a + 4 + 4 + 2) (a + 2 + 8) (omega arith))
     (from (a + 4 + 4 + 3) (a + 2 + 12) (omega arith)) in
-    four-stored f out _ (a + 4 + 4 + 4) e₃ (omega arith) s₄ (from (a + 4 + 4 + 4) (a + 3) (omega arith))
+    four_stored f out _ (a + 4 + 4 + 4) e₃ (omega arith) s₄ (from (a + 4 + 4 + 4) (a + 3) (omega arith))
     (from (a + 4 + 4 + 4 + 1) (a + 3 + 4) (omega arith)) (from (a + 4 + 4 + 4 + 2) (a + 3 + 8) (omega arith))
     (from (a + 4 + 4 + 4 + 3) (a + 3 + 12) (omega arith))
 
@@ -145,17 +145,17 @@ module _ (weights : List ℕ) (stride offset : ℕ) (input out : List Float) (a 
   abbrev b : Sixteen
   b = block weights stride offset input out a
 
-  pub block-kept : (kept now : List Float) {s : Sixteen} {m₁ m₂ m₃ m₄ : List Float} → a + 16 ≤ length kept
+  pub block_kept : (kept now : List Float) {s : Sixteen} {m₁ m₂ m₃ m₄ : List Float} → a + 16 ≤ length kept
       → now ≡ tab a spotted ++ drop a kept
       → s ≡ b
-      → m₁ ≡ storeFour now a s.p.a s.q.a s.r.a s.s.a
-      → m₂ ≡ storeFour m₁ (a + 4) s.p.b s.q.b s.r.b s.s.b
-      → m₃ ≡ storeFour m₂ (a + 4 + 4) s.p.c s.q.c s.r.c s.s.c
-      → m₄ ≡ storeFour m₃ (a + 4 + 4 + 4) s.p.d s.q.d s.r.d s.s.d
+      → m₁ ≡ store_four now a s.p.a s.q.a s.r.a s.s.a
+      → m₂ ≡ store_four m₁ (a + 4) s.p.b s.q.b s.r.b s.s.b
+      → m₃ ≡ store_four m₂ (a + 4 + 4) s.p.c s.q.c s.r.c s.s.c
+      → m₄ ≡ store_four m₃ (a + 4 + 4 + 4) s.p.d s.q.d s.r.d s.s.d
       → m₄ ≡ tab (a + 4 + 4 + 4 + 4) spotted ++ drop (a + 4 + 4 + 4 + 4) kept
-  unfolding plusSixteen plusFour sixteenAt fourAt
-  block-kept kept now {s} room e same s₁ s₂ s₃ s₄ =
-      let e₁ = four-stored spotted kept now (a) e (omega arith) s₁
+  unfolding plus_sixteen plus_four sixteen_at four_at
+  block_kept kept now {s} room e same s₁ s₂ s₃ s₄ =
+      let e₁ = four_stored spotted kept now (a) e (omega arith) s₁
       (ap (λ (t : Sixteen). t.p.a) same
       ∙ lane weights stride offset input out a (λ t. t.p.a) (λ r. r) 0 (a) (λ r. omega arith) (λ r x t. refl) refl
       (omega arith))
@@ -168,7 +168,7 @@ module _ (weights : List ℕ) (stride offset : ℕ) (input out : List Float) (a 
       (ap (λ (t : Sixteen). t.s.a) same
       ∙ lane weights stride offset input out a (λ t. t.s.a) (λ r. r + 12) 12 (a + 3) (λ r. omega arith)
       (λ r x t. refl) refl (omega arith)) in
-      let e₂ = four-stored spotted kept _ (a + 4) e₁ (omega arith) s₂
+      let e₂ = four_stored spotted kept _ (a + 4) e₁ (omega arith) s₂
       (ap (λ (t : Sixteen). t.p.b) same
       ∙ lane weights stride offset input out a (λ t. t.p.b) (λ r. r + 1) 1 (a + 4) (λ r. omega arith)
       (λ r x t. refl) refl (omega arith))
@@ -181,7 +181,7 @@ module _ (weights : List ℕ) (stride offset : ℕ) (input out : List Float) (a 
       (ap (λ (t : Sixteen). t.s.b) same
       ∙ lane weights stride offset input out a (λ t. t.s.b) (λ r. r + 12 + 1) 13 (a + 4 + 3) (λ r. omega arith)
       (λ r x t. refl) refl (omega arith)) in
-      let e₃ = four-stored spotted kept _ (a + 4 + 4) e₂ (omega arith) s₃
+      let e₃ = four_stored spotted kept _ (a + 4 + 4) e₂ (omega arith) s₃
       (ap (λ (t : Sixteen). t.p.c) same
       ∙ lane weights stride offset input out a (λ t. t.p.c) (λ r. r + 2) 2 (a + 4 + 4) (λ r. omega arith)
       (λ r x t. refl) refl (omega arith))
@@ -194,7 +194,7 @@ module _ (weights : List ℕ) (stride offset : ℕ) (input out : List Float) (a 
       (ap (λ (t : Sixteen). t.s.c) same
       ∙ lane weights stride offset input out a (λ t. t.s.c) (λ r. r + 12 + 2) 14 (a + 4 + 4 + 3) (λ r. omega arith)
       (λ r x t. refl) refl (omega arith)) in
-      four-stored spotted kept _ (a + 4 + 4 + 4) e₃ (omega arith) s₄
+      four_stored spotted kept _ (a + 4 + 4 + 4) e₃ (omega arith) s₄
       (ap (λ (t : Sixteen). t.p.d) same
       ∙ lane weights stride offset input out a (λ t. t.p.d) (λ r. r + 3) 3 (a + 4 + 4 + 4) (λ r. omega arith)
       (λ r x t. refl) refl (omega arith))
@@ -209,50 +209,50 @@ module _ (weights : List ℕ) (stride offset : ℕ) (input out : List Float) (a 
       (λ r. omega arith) (λ r x t. refl) refl (omega arith))
 
 -- a spot's spot is the place itself
-spot-below : (i n : ℕ) → n % 16 ≡ 0 → i < n → spot i < n
-spot-below i n whole h = omega arith
+spot_below : (i n : ℕ) → n % 16 ≡ 0 → i < n → spot i < n
+spot_below i n whole h = omega arith
 
-spot-spot : (i : ℕ) → spot (spot i) ≡ i
-spot-spot i =
+spot_spot : (i : ℕ) → spot (spot i) ≡ i
+spot_spot i =
     let a : spot i / 16 ≡ i / 16 = omega arith in
     let b : spot i % 4 ≡ i % 16 / 4 = omega arith in
     let c : spot i % 16 / 4 ≡ i % 4 = omega arith in
     rw (a, b, c) (omega arith)
 
-pub both-orders : (f : ℕ → Float) (kept : List Float) (n : ℕ) {left : List Float} → n % 16 ≡ 0
+pub both_orders : (f : ℕ → Float) (kept : List Float) (n : ℕ) {left : List Float} → n % 16 ≡ 0
     → kept ≡ tab n (λ i. f (spot i)) → left ≡ tab n (λ j. at kept (spot j)) → left ≡ tab n f
-both-orders f kept n whole k e =
+both_orders f kept n whole k e =
     e
-    ∙ tab-same n (λ j. at kept (spot j)) f
+    ∙ tab_same n (λ j. at kept (spot j)) f
     (λ j h. ap (λ (l : List Float). at l (spot j)) k
-    ∙ getD-tab n (λ i. f (spot i)) (spot j) nan (spot-below j n whole h) ∙ ap f (spot-spot j))
+    ∙ get_d_tab n (λ i. f (spot i)) (spot j) nan (spot_below j n whole h) ∙ ap f (spot_spot j))
 
 -- sums from m on are those of the rest, at an offset that is m more
-pub from-there : (weights : List ℕ) (stride offset m : ℕ) (input out : List Float) (j : ℕ)
+pub from_there : (weights : List ℕ) (stride offset m : ℕ) (input out : List Float) (j : ℕ)
     → neuron (drop m out) weights stride (offset + m) input j ≡ neuron out weights stride offset input (m + j)
 unfolding neuron
-from-there weights stride offset m input out j =
-    seen (λ (a : Float). a) (λ i. addedAt weights (i * stride + (offset + m) + j) (at input i))
-    (λ i. addedAt weights (i * stride + offset + (m + j)) (at input i))
+from_there weights stride offset m input out j =
+    seen (λ (a : Float). a) (λ i. added_at weights (i * stride + (offset + m) + j) (at input i))
+    (λ i. added_at weights (i * stride + offset + (m + j)) (at input i))
     (λ i a.
     let same : i * stride + (offset + m) + j ≡ i * stride + offset + (m + j) = omega arith in
-    ap (λ (p : ℕ). addedAt weights p (at input i) a) same)
+    ap (λ (p : ℕ). added_at weights p (at input i) a) same)
     (length input) (at (drop m out) j)
-    ∙ ap (loop (length input) (λ i. addedAt weights (i * stride + offset + (m + j)) (at input i)))
+    ∙ ap (loop (length input) (λ i. added_at weights (i * stride + offset + (m + j)) (at input i)))
     (get_or-drop m out j nan)
 
 -- the first m sums are those of the front
-pub at_front : (weights : List ℕ) (stride offset m : ℕ) (input out : List Float) (j : ℕ) → j < m
+pub at_front_lem : (weights : List ℕ) (stride offset m : ℕ) (input out : List Float) (j : ℕ) → j < m
     → neuron (take m out) weights stride offset input j ≡ neuron out weights stride offset input j
 unfolding neuron
-at_front weights stride offset m input out j h =
-    ap (loop (length input) (λ i. addedAt weights (i * stride + offset + j) (at input i))) (get_or-take m out j nan h)
+at_front_lem weights stride offset m input out j h =
+    ap (loop (length input) (λ i. added_at weights (i * stride + offset + j) (at input i))) (get_or-take m out j nan h)
 
-pub tab-append : (m k : ℕ) (f : ℕ → Float) → tab m f ++ tab k (λ j. f (m + j)) ≡ tab (m + k) f
+pub tab_append : (m k : ℕ) (f : ℕ → Float) → tab m f ++ tab k (λ j. f (m + j)) ≡ tab (m + k) f
 unfolding tab
-tab-append m zero f = rw add-zero (append-nil (tab m f))
-tab-append m (suc k) f =
-    rw (add-suc, ← tab-append m k f) (sym (append_assoc (tab m f) (tab k (λ j. f (m + j))) (f (m + k) ∷ [])))
+tab_append m zero f = rw add-zero (append-nil (tab m f))
+tab_append m (suc k) f =
+    rw (add-suc, ← tab_append m k f) (sym (append_assoc (tab m f) (tab k (λ j. f (m + j))) (f (m + k) ∷ [])))
 
 -- ---- the front by sixteens, and the rest column by column
 module _ (weights : List ℕ) (stride offset : ℕ) (input out : List Float) (m k : ℕ) (same : k ≡ m)
@@ -264,48 +264,48 @@ module _ (weights : List ℕ) (stride offset : ℕ) (input out : List Float) (m 
   abbrev later : List Float
   later = take (length out - m) (drop m (front ++ drop k out))
 
-  front-is : front ≡ tab m sum
-  front-is =
+  front_is : front ≡ tab m sum
+  front_is =
       let long : length (take k out) ≡ m = rw same (length-take-le m out inside) in
       wide ∙ rw (
         long,
         same,
-      ) (tab-same m (neuron (take m out) weights stride offset input) sum
-      (λ j h. at_front weights stride offset m input out j h))
+      ) (tab_same m (neuron (take m out) weights stride offset input) sum
+      (λ j h. at_front_lem weights stride offset m input out j h))
 
   front_long : length front ≡ m
-  front_long = ap length front-is ∙ length-tab m sum
+  front_long = ap length front_is ∙ length_tab m sum
 
-  rest-is : later ≡ drop m out
-  rest-is =
+  rest_is : later ≡ drop m out
+  rest_is =
       rw (drop_at front (drop k out) m front_long, same)
       (take_all (length out - m) (drop m out) (simp length-drop (omega arith)))
 
-  pub rest-fits : {w n : ℕ} → MulAddFits (length out) w stride offset n
+  pub rest_fits : {w n : ℕ} → MulAddFits (length out) w stride offset n
       → MulAddFits (length later) w stride (offset + m) n
-  rest-fits fits =
+  rest_fits fits =
       let rows = fits.rows in
-      let long : length later ≡ length out - m = ap length rest-is ∙ length-drop m out in
+      let long : length later ≡ length out - m = ap length rest_is ∙ length-drop m out in
       record { rows = rw long (omega arith); columns = fits.columns }
 
-  rest-sums : {left : List Float} → MulAddFits (length out) (length weights) stride offset (length input)
-      → left ≡ mulAdd later weights stride (offset + m) input
+  rest_sums : {left : List Float} → MulAddFits (length out) (length weights) stride offset (length input)
+      → left ≡ mul_add later weights stride (offset + m) input
       → left ≡ tab (length out - m) (λ j. sum (m + j))
-  rest-sums fits e =
+  rest_sums fits e =
       let long : length (drop m out) ≡ length out - m = length-drop m out in
       let fit : MulAddFits (length (drop m out)) (length weights) stride (offset + m) (length input) =
-      rw rest-is at (rest-fits fits) in
+      rw rest_is at (rest_fits fits) in
       e
-      ∙ ap (λ (l : List Float). mulAdd l weights stride (offset + m) input) rest-is
-      ∙ mulAdd-tab weights stride (offset + m) input (drop m out) fit
-      ∙ rw long (tab-same (length out - m) (neuron (drop m out) weights stride (offset + m) input) (λ j. sum (m + j))
-      (λ j h. from-there weights stride offset m input out j))
+      ∙ ap (λ (l : List Float). mul_add l weights stride (offset + m) input) rest_is
+      ∙ mul_add_tab weights stride (offset + m) input (drop m out) fit
+      ∙ rw long (tab_same (length out - m) (neuron (drop m out) weights stride (offset + m) input) (λ j. sum (m + j))
+      (λ j h. from_there weights stride offset m input out j))
 
-  pub both-parts : {left : List Float} → MulAddFits (length out) (length weights) stride offset (length input)
-      → left ≡ mulAdd later weights stride (offset + m) input
+  pub both_parts : {left : List Float} → MulAddFits (length out) (length weights) stride offset (length input)
+      → left ≡ mul_add later weights stride (offset + m) input
       → take m (front ++ drop k out) ++ (left ++ drop (length out - m) (drop m (front ++ drop k out)))
-      ≡ mulAdd out weights stride offset input
-  both-parts {left} fits e =
+      ≡ mul_add out weights stride offset input
+  both_parts {left} fits e =
       let whole : m + (length out - m) ≡ length out = omega arith in
       let none : drop (length out - m) (drop m out) ≡ [] =
       drop_of_length-le (drop m out) {i = length out - m} (simp length-drop (omega arith)) in
@@ -315,16 +315,16 @@ module _ (weights : List ℕ) (stride offset : ℕ) (input out : List Float) (m 
         same,
         none,
         append-nil left,
-        front-is,
-        rest-sums fits e,
-        tab-append m (length out - m) sum,
+        front_is,
+        rest_sums fits e,
+        tab_append m (length out - m) sum,
         whole,
       )
-      (sym (mulAdd-tab weights stride offset input out fits))
+      (sym (mul_add_tab weights stride offset input out fits))
 
-  pub front-alone : MulAddFits (length out) (length weights) stride offset (length input) → length out ≤ m
-      → front ++ drop k out ≡ mulAdd out weights stride offset input
-  front-alone fits all =
+  pub front_alone : MulAddFits (length out) (length weights) stride offset (length input) → length out ≤ m
+      → front ++ drop k out ≡ mul_add out weights stride offset input
+  front_alone fits all =
       let whole : m ≡ length out = omega arith in
-      rw (drop_of_length-le out {i = k} (omega arith), append-nil front, front-is, whole)
-      (sym (mulAdd-tab weights stride offset input out fits))
+      rw (drop_of_length-le out {i = k} (omega arith), append-nil front, front_is, whole)
+      (sym (mul_add_tab weights stride offset input out fits))

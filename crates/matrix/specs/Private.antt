@@ -1,7 +1,7 @@
 -- For the contracts of private functions: the sums of a multiply-add one by one, and sixteen of them side by side.
 use Rattle.rules.specs.Common.{ℕ, ◌+◌, ◌*◌, ◌/◌, ◌%◌, ◌≤◌, List, ◌≡◌, length, set, Float}
 use Rattle.rules.specs.Loop.{loop}
-use Rattle.rules.specs.F32.{◌⊕◌, ◌⊗◌, at, natAt}
+use Rattle.rules.specs.F32.{◌⊕◌, ◌⊗◌, at, nat_at}
 use Rattle.matrix.specs.Sums.{of_byte, MulAddFits}
 use Rattle.matrix.specs.declared.lanes.Four.{Four}
 use Rattle.matrix.specs.declared.lanes.Sixteen.{Sixteen}
@@ -14,54 +14,54 @@ pub record Bytes (word b0 b1 b2 b3 : ℕ) : Type 0 where
   pub fourth : word / 16777216 ≡ b3
 
 -- A sum, plus the weight at a place times an input.
-abbrev pub addedAt : List ℕ → ℕ → Float → Float → Float
-addedAt weights place x a = a ⊕ of_byte (natAt weights place) ⊗ x
+abbrev pub added_at : List ℕ → ℕ → Float → Float → Float
+added_at weights place x a = a ⊕ of_byte (nat_at weights place) ⊗ x
 
 -- The same for four neighbouring sums.
-unfoldable pub plusFour : List ℕ → ℕ → Float → Four → Four
-plusFour weights place x s =
+unfoldable pub plus_four : List ℕ → ℕ → Float → Four → Four
+plus_four weights place x s =
     record {
-      a = addedAt weights place x s.a;
-      b = addedAt weights (place + 1) x s.b;
-      c = addedAt weights (place + 2) x s.c;
-      d = addedAt weights (place + 3) x s.d;
+      a = added_at weights place x s.a;
+      b = added_at weights (place + 1) x s.b;
+      c = added_at weights (place + 2) x s.c;
+      d = added_at weights (place + 3) x s.d;
     }
 
 -- The same for sixteen neighbouring sums.
-unfoldable pub plusSixteen : List ℕ → ℕ → Float → Sixteen → Sixteen
-unfolding plusFour
-plusSixteen weights place x t =
+unfoldable pub plus_sixteen : List ℕ → ℕ → Float → Sixteen → Sixteen
+unfolding plus_four
+plus_sixteen weights place x t =
     record {
-      p = plusFour weights place x t.p;
-      q = plusFour weights (place + 4) x t.q;
-      r = plusFour weights (place + 8) x t.r;
-      s = plusFour weights (place + 12) x t.s;
+      p = plus_four weights place x t.p;
+      q = plus_four weights (place + 4) x t.q;
+      r = plus_four weights (place + 8) x t.r;
+      s = plus_four weights (place + 12) x t.s;
     }
 
 -- Sixteen sums over the first n inputs, in order.
-unfoldable pub sixteenSums : List ℕ → ℕ → ℕ → List Float → ℕ → Sixteen → Sixteen
-unfolding plusSixteen loop
-sixteenSums weights stride place input n t = loop n (λ i. plusSixteen weights (i * stride + place) (at input i)) t
+unfoldable pub sixteen_sums : List ℕ → ℕ → ℕ → List Float → ℕ → Sixteen → Sixteen
+unfolding plus_sixteen loop
+sixteen_sums weights stride place input n t = loop n (λ i. plus_sixteen weights (i * stride + place) (at input i)) t
 
 -- Four neighbouring numbers.
-unfoldable pub fourAt : List Float → ℕ → Four
-fourAt out place = record { a = at out place; b = at out (place + 1); c = at out (place + 2); d = at out (place + 3) }
+unfoldable pub four_at : List Float → ℕ → Four
+four_at out place = record { a = at out place; b = at out (place + 1); c = at out (place + 2); d = at out (place + 3) }
 
 -- Sixteen neighbouring numbers.
-unfoldable pub sixteenAt : List Float → ℕ → Sixteen
-unfolding fourAt
-sixteenAt out place =
-    record { p = fourAt out place; q = fourAt out (place + 4); r = fourAt out (place + 8); s = fourAt out (place + 12) }
+unfoldable pub sixteen_at : List Float → ℕ → Sixteen
+unfolding four_at
+sixteen_at out place =
+    record { p = four_at out place; q = four_at out (place + 4); r = four_at out (place + 8); s = four_at out (place + 12) }
 
 -- Stores four neighbouring numbers.
-unfoldable pub storeFour : List Float → ℕ → Float → Float → Float → Float → List Float
-storeFour xs place a b c d = set (set (set (set xs place a) (place + 1) b) (place + 2) c) (place + 3) d
+unfoldable pub store_four : List Float → ℕ → Float → Float → Float → Float → List Float
+store_four xs place a b c d = set (set (set (set xs place a) (place + 1) b) (place + 2) c) (place + 3) d
 
 -- Sum j of `mul_add`.
 unfoldable pub neuron : List Float → List ℕ → ℕ → ℕ → List Float → ℕ → Float
 unfolding loop
 neuron out weights stride offset input j =
-    loop (length input) (λ i. addedAt weights (i * stride + offset + j) (at input i)) (at out j)
+    loop (length input) (λ i. added_at weights (i * stride + offset + j) (at input i)) (at out j)
 
 -- Where sum i is kept at first: in its block of sixteen the sums are ordered by the byte of the word that their weights
 -- are read from.

@@ -2,11 +2,11 @@
 // one word, and then used byte by byte over four words: so one load of sixteen bytes serves sixteen products. The sums
 // are first stored in the order in which they were computed, and a second pass puts them in order.
 ghost use Rattle.std.specs.Prelude.{◌≡◌, ◌+◌, ◌*◌, ◌/◌, ◌%◌, ◌≤◌, length};
-ghost use Rattle.rules.specs.F32.{at, natAt};
+ghost use Rattle.rules.specs.F32.{at, nat_at};
 ghost use Rattle.rules.specs.Tab.{tab};
 ghost use Rattle.matrix.specs.Sums.{of_byte};
-ghost use Rattle.matrix.specs.Private.{Bytes, plusFour, plusSixteen, fourAt, sixteenAt, sixteenSums};
-ghost use Rattle.matrix.specs.Private.{neuron, spot, storeFour, Rows, Blocks};
+ghost use Rattle.matrix.specs.Private.{Bytes, plus_four, plus_sixteen, four_at, sixteen_at, sixteen_sums};
+ghost use Rattle.matrix.specs.Private.{neuron, spot, store_four, Rows, Blocks};
 
 use crate::sums::weight;
 
@@ -38,8 +38,8 @@ fn joined(b0: u8, b1: u8, b2: u8, b3: u8) -> u32
 // Four weights as one word. It is a function of its own so that it becomes one load.
 fn word(weights: &[u8], place: usize) -> u32
     requires { place + 4 ≤ length weights.now }
-    ensures { Bytes result (natAt weights.now place) (natAt weights.now (place + 1))
-        (natAt weights.now (place + 2)) (natAt weights.now (place + 3)) }
+    ensures { Bytes result (nat_at weights.now place) (nat_at weights.now (place + 1))
+        (nat_at weights.now (place + 2)) (nat_at weights.now (place + 3)) }
 {
     joined(
         weights[place],
@@ -81,7 +81,7 @@ fn byte3(v: u32) -> f32
 // Adds four products to four sums.
 fn plus(s: Four, weights: &[u8], place: usize, x: f32) -> Four
     requires { place + 4 ≤ length weights.now }
-    ensures { result ≡ plusFour weights.now place x s }
+    ensures { result ≡ plus_four weights.now place x s }
 {
     let v = word(weights, place);
     Four {
@@ -95,7 +95,7 @@ fn plus(s: Four, weights: &[u8], place: usize, x: f32) -> Four
 // Adds sixteen products to sixteen sums.
 fn step(s: Sixteen, weights: &[u8], place: usize, x: f32) -> Sixteen
     requires { place + 16 ≤ length weights.now }
-    ensures { result ≡ plusSixteen weights.now place x s }
+    ensures { result ≡ plus_sixteen weights.now place x s }
 {
     Sixteen {
         p: plus(s.p, weights, place, x),
@@ -108,7 +108,7 @@ fn step(s: Sixteen, weights: &[u8], place: usize, x: f32) -> Sixteen
 // Sixteen sums over all inputs, in order.
 fn sums(s: Sixteen, weights: &[u8], stride: usize, place: usize, input: &[f32]) -> Sixteen
     requires { Rows (length weights.now) stride place (length input.now) }
-    ensures { result ≡ sixteenSums weights.now stride place input.now
+    ensures { result ≡ sixteen_sums weights.now stride place input.now
         (length input.now) s }
 {
     let mut r = s;
@@ -122,7 +122,7 @@ fn sums(s: Sixteen, weights: &[u8], stride: usize, place: usize, input: &[f32]) 
 // Reads four neighbouring numbers.
 fn take_four(out: &[f32], place: usize) -> Four
     requires { place + 4 ≤ length out.now }
-    ensures { result ≡ fourAt out.now place }
+    ensures { result ≡ four_at out.now place }
 {
     Four {
         a: out[place],
@@ -135,7 +135,7 @@ fn take_four(out: &[f32], place: usize) -> Four
 // Reads sixteen neighbouring numbers.
 fn take_sixteen(out: &[f32], place: usize) -> Sixteen
     requires { place + 16 ≤ length out.now }
-    ensures { result ≡ sixteenAt out.now place }
+    ensures { result ≡ sixteen_at out.now place }
 {
     Sixteen {
         p: take_four(out, place),
@@ -148,7 +148,7 @@ fn take_sixteen(out: &[f32], place: usize) -> Sixteen
 // Stores four neighbouring numbers.
 fn give(to: &mut [f32], place: usize, a: f32, b: f32, c: f32, d: f32)
     requires { place + 4 ≤ length to.old }
-    ensures { to.new ≡ storeFour to.old place a b c d }
+    ensures { to.new ≡ store_four to.old place a b c d }
 {
     to[place] = a;
     to[place + 1] = b;
@@ -193,7 +193,7 @@ fn blocks(
 fn back(out: &mut [f32], place: usize, kept: &[f32], from: usize)
     requires { (place + 4 ≤ length out.old) × (from + 13 ≤ length kept.now) }
     ensures { out.new
-        ≡ storeFour out.old place (at kept.now from) (at kept.now (from + 4))
+        ≡ store_four out.old place (at kept.now from) (at kept.now (from + 4))
         (at kept.now (from + 8)) (at kept.now (from + 12)) }
 {
     give(

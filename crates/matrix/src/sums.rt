@@ -1,6 +1,6 @@
 // The multiply-add over plain slices.
 ghost use Rattle.std.specs.Prelude.{◌≡◌, ◌+◌, ◌*◌, ◌%◌, ◌≤◌, eqb, length};
-ghost use Rattle.matrix.specs.Sums.{of_byte, addColumn, mulAdd, MulAddFits, MulAdd};
+ghost use Rattle.matrix.specs.Sums.{of_byte, add_column, mul_add, MulAddFits, MulAdd};
 
 // A byte of the model as the weight that it stands for. There is no branch, so that loops over it are vectorised.
 pub fn weight(b: u8) -> f32
@@ -12,7 +12,7 @@ pub fn weight(b: u8) -> f32
 // One column of `mul_add`.
 fn add_column(out: &mut [f32], col: &[u8], x: f32)
     requires { length out.old ≤ length col.now }
-    ensures { out.new ≡ addColumn out.old col.now x }
+    ensures { out.new ≡ add_column out.old col.now x }
 {
     for j in 0..out.len() {
         out[j] = out[j] + weight(col[j]) * x;
@@ -23,7 +23,7 @@ fn add_column(out: &mut [f32], col: &[u8], x: f32)
 fn add_two(out: &mut [f32], first: &[u8], x: f32, second: &[u8], y: f32)
     requires { (length out.old ≤ length first.now) × (length out.old ≤ length second.now) }
     ensures { out.new
-        ≡ addColumn (addColumn out.old first.now x) second.now y }
+        ≡ add_column (add_column out.old first.now x) second.now y }
 {
     for j in 0..out.len() {
         out[j] = out[j] + weight(first[j]) * x + weight(second[j]) * y;
@@ -34,7 +34,7 @@ fn add_two(out: &mut [f32], first: &[u8], x: f32, second: &[u8], y: f32)
 fn columns(out: &mut [f32], weights: &[u8], stride: usize, offset: usize, input: &[f32])
     requires { MulAddFits (length out.old) (length weights.now) stride offset (length input.now) }
     ensures { out.new
-        ≡ mulAdd out.old weights.now stride offset input.now }
+        ≡ mul_add out.old weights.now stride offset input.now }
 {
     let mut i = 0usize;
     while i + 1 < input.len() {
@@ -77,7 +77,7 @@ fn both(
     requires { (length kept.old ≤ length out.old) × (length kept.old % 16 ≡ 0)
         × MulAddFits (length out.old) (length weights.now) stride offset (length input.now) }
     ensures { out.new
-        ≡ mulAdd out.old weights.now stride offset input.now }
+        ≡ mul_add out.old weights.now stride offset input.now }
 {
     let n = out.len();
     let m = kept.len();
@@ -92,7 +92,7 @@ fn both(
 fn mul_add_core(out: &mut [f32], weights: &[u8], stride: usize, offset: usize, input: &[f32])
     requires { MulAddFits (length out.old) (length weights.now) stride offset (length input.now) }
     ensures { out.new
-        ≡ mulAdd out.old weights.now stride offset input.now }
+        ≡ mul_add out.old weights.now stride offset input.now }
 {
     let m = wide_of(out.len());
     let mut kept = [0.0f32; 128];

@@ -6,12 +6,12 @@
 use Rattle.rules.proofs.Common.{ℕ, suc, true, false, cond, List, [], ◌∷◌, ◌++◌, ◌≡◌, refl, ap, length, Float}
 use Rattle.rules.specs.F32.{at}
 use Rattle.rules.specs.Place.{get}
-use Rattle.frame.specs.Reply.{oneMore}
-use Rattle.frame.specs.Share.{keptX, keptEx, keptLag}
+use Rattle.frame.specs.Reply.{one_more}
+use Rattle.frame.specs.Share.{kept_x, kept_ex, kept_lag}
 use Rattle.desk.specs.declared.Record.{Record}
-use Rattle.memory.specs.Hear.{Recalled, hear, heardAll}
+use Rattle.memory.specs.Hear.{Recalled, hear, heard_all}
 use Rattle.memory.specs.Calls.{FrameCall, one, two, three, four}
-use Rattle.memory.specs.Brought.{recalledIn, Noted, noting, heardFrame, brought}
+use Rattle.memory.specs.Brought.{recalled_in, Noted, noting, heard_frame, brought}
 
 -- what is remembered, what is noted, and the numbers of frames and of heard frames
 pub record Kept : Type 0 where
@@ -20,43 +20,43 @@ pub record Kept : Type 0 where
   pub frame : ℕ
   pub heard : ℕ
 
-abbrev pub keptOf : Recalled → Noted → ℕ → ℕ → Kept
-keptOf recalled noted frame heard = record { recalled = recalled; noted = noted; frame = frame; heard = heard }
+abbrev pub kept_of : Recalled → Noted → ℕ → ℕ → Kept
+kept_of recalled noted frame heard = record { recalled = recalled; noted = noted; frame = frame; heard = heard }
 
 -- in a record and a share
 abbrev pub noted_in : List Float → Noted
-noted_in share = record { x = get keptX share; ex = get keptEx share; lag = at (get keptLag share) 0 }
+noted_in share = record { x = get kept_x share; ex = get kept_ex share; lag = at (get kept_lag share) 0 }
 
-abbrev pub keptIn : Record → List Float → Kept
-keptIn rec share = keptOf (recalledIn rec.hearing.index share) (noted_in share) rec.frame rec.heard
+abbrev pub kept_in : Record → List Float → Kept
+kept_in rec share = kept_of (recalled_in rec.hearing.index share) (noted_in share) rec.frame rec.heard
 
 -- behind a call
 abbrev pub keeping : Kept → FrameCall → Kept
 keeping k one = k
-keeping k (two x lag) = keptOf k.recalled (noting x lag) k.frame k.heard
+keeping k (two x lag) = kept_of k.recalled (noting x lag) k.frame k.heard
 keeping k (three heard x logs m) =
-    cond heard (keptOf (hear k.recalled (heardFrame k.noted x logs m)) k.noted k.frame
-    (oneMore k.heard)) k
-keeping k four = keptOf k.recalled k.noted (oneMore k.frame) k.heard
+    cond heard (kept_of (hear k.recalled (heard_frame k.noted x logs m)) k.noted k.frame
+    (one_more k.heard)) k
+keeping k four = kept_of k.recalled k.noted (one_more k.frame) k.heard
 
 unfoldable pub kept : Kept → List FrameCall → Kept
 kept k [] = k
 kept k (c ∷ cs) = kept (keeping k c) cs
 
-pub kept-behind : (k : Kept) (xs ys : List FrameCall) → kept k (xs ++ ys) ≡ kept (kept k xs) ys
+pub kept_behind : (k : Kept) (xs ys : List FrameCall) → kept k (xs ++ ys) ≡ kept (kept k xs) ys
 unfolding kept
-kept-behind k [] ys = refl
-kept-behind k (c ∷ xs) ys = kept-behind (keeping k c) xs ys
+kept_behind k [] ys = refl
+kept_behind k (c ∷ xs) ys = kept_behind (keeping k c) xs ys
 
-pub kept-recalled : (k : Kept) (cs : List FrameCall)
-    → (kept k cs).recalled ≡ heardAll k.recalled (brought k.noted cs)
-unfolding kept brought heardAll
-kept-recalled k [] = refl
-kept-recalled k (one ∷ cs) = kept-recalled k cs
-kept-recalled k (two x lag ∷ cs) = kept-recalled _ cs
-kept-recalled k (three true x logs m ∷ cs) = kept-recalled _ cs
-kept-recalled k (three false x logs m ∷ cs) = kept-recalled k cs
-kept-recalled k (four ∷ cs) = kept-recalled _ cs
+pub kept_recalled : (k : Kept) (cs : List FrameCall)
+    → (kept k cs).recalled ≡ heard_all k.recalled (brought k.noted cs)
+unfolding kept brought heard_all
+kept_recalled k [] = refl
+kept_recalled k (one ∷ cs) = kept_recalled k cs
+kept_recalled k (two x lag ∷ cs) = kept_recalled _ cs
+kept_recalled k (three true x logs m ∷ cs) = kept_recalled _ cs
+kept_recalled k (three false x logs m ∷ cs) = kept_recalled k cs
+kept_recalled k (four ∷ cs) = kept_recalled _ cs
 
 pub same_count : (k k' : Noted) (cs : List FrameCall) → length (brought k cs) ≡ length (brought k' cs)
 unfolding brought

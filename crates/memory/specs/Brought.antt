@@ -3,22 +3,22 @@
 use Rattle.rules.specs.Common.{ℕ, cond, List, [], ◌∷◌, pos, Float, binary32, of_int}
 use Rattle.rules.specs.F32.{f32, zeros}
 use Rattle.rules.specs.Place.{get}
-use Rattle.features.specs.Features.{normalisedCorr}
-use Rattle.frame.specs.Share.{lastg, cepstralMem, vadState, noiseState, denoiseState}
+use Rattle.features.specs.Features.{normalised_corr}
+use Rattle.frame.specs.Share.{lastg, cepstral_mem, vad_state, noise_state, denoise_state}
 use Rattle.frame.specs.Heard.{scaled, energies}
 use Rattle.memory.specs.Hear.{Recalled, HeardFrame}
 use Rattle.memory.specs.Calls.{FrameCall, one, two, three, four}
 
 -- What is remembered in a share. (The index of the cepstra is in the record.)
-abbrev pub recalledIn : ℕ → List Float → Recalled
-recalledIn index share =
+abbrev pub recalled_in : ℕ → List Float → Recalled
+recalled_in index share =
     record {
       gains = get lastg share;
-      cepstra = get cepstralMem share;
+      cepstra = get cepstral_mem share;
       index = index;
-      vad = get vadState share;
-      noise = get noiseState share;
-      denoise = get denoiseState share;
+      vad = get vad_state share;
+      noise = get noise_state share;
+      denoise = get denoise_state share;
     }
 
 -- What call 2 notes for call 3.
@@ -40,11 +40,11 @@ noting spectrum lag = record { x = scaled spectrum; ex = energies spectrum; lag 
 
 -- The heard frame that call 3 makes of what was noted and of the second spectrum: their band correlations, normalised
 -- by the energies of both.
-abbrev pub heardFrame : Noted → List Float → List Float → List ℕ → HeardFrame
-heardFrame k p logs model =
+abbrev pub heard_frame : Noted → List Float → List Float → List ℕ → HeardFrame
+heard_frame k p logs model =
     record {
       logs = logs;
-      correlations = normalisedCorr k.x (scaled p) k.ex (energies p);
+      correlations = normalised_corr k.x (scaled p) k.ex (energies p);
       lag = k.lag;
       model = model;
     }
@@ -54,5 +54,5 @@ unfoldable pub brought : Noted → List FrameCall → List HeardFrame
 brought k [] = []
 brought k (one ∷ cs) = brought k cs
 brought k (two x lag ∷ cs) = brought (noting x lag) cs
-brought k (three heard x logs m ∷ cs) = cond heard (heardFrame k x logs m ∷ brought k cs) (brought k cs)
+brought k (three heard x logs m ∷ cs) = cond heard (heard_frame k x logs m ∷ brought k cs) (brought k cs)
 brought k (four ∷ cs) = brought k cs

@@ -2,19 +2,19 @@
 -- resume are made of halves.
 use Rattle.rules.specs.Common.{ℕ, Bool, cond, List, [], ◌∷◌, ◌++◌, ltb, length, take, drop, Float}
 use Rattle.rules.specs.Place.{get}
-use Rattle.frame.specs.Written.{firstIn}
-use Rattle.lag.specs.Lag.{ownLag}
-use Rattle.frame.specs.Share.{inputMem}
-use Rattle.frame.specs.Reply.{passed, isHeard}
+use Rattle.frame.specs.Written.{first_in}
+use Rattle.lag.specs.Lag.{own_lag}
+use Rattle.frame.specs.Share.{input_mem}
+use Rattle.frame.specs.Reply.{passed, is_heard}
 use Rattle.frame.specs.declared.Reply.{Reply}
 use Rattle.frame.specs.declared.Way.{Way}
 use Rattle.frame.specs.Frame.{done1}
-use Rattle.halves.specs.Ways.{lagBy, forwardBy}
-use Rattle.halves.specs.Halves.{lookedBack}
+use Rattle.halves.specs.Ways.{lag_by, forward_by}
+use Rattle.halves.specs.Halves.{looked_back}
 use Rattle.halves.specs.Halves as halves
-use Rattle.pieces.specs.Pieces.{framePart, waitingIn}
+use Rattle.pieces.specs.Pieces.{frame_part, waiting_in}
 use Rattle.desk.specs.declared.Record.{Record}
-use Rattle.desk.specs.Desk.{Ask, opening, call1, call2, call2Own, call3, call4, firstHalf, secondHalf, piece, resume}
+use Rattle.desk.specs.Desk.{Ask, opening, call1, call2, call2_own, call3, call4, first_half, second_half, piece, resume}
 
 -- A call of a frame, with those of its arguments that a bench remembers something of.
 pub data FrameCall : Type 0 where
@@ -28,37 +28,37 @@ pub data FrameCall : Type 0 where
   four : FrameCall
 
 -- The calls of a first half, in the bench's way. `part` is the part of the share that belongs to a frame.
-abbrev pub firstCalls : Way → List Float → List Float → List FrameCall
-firstCalls way part x = let a = done1 part x in
-    one ∷ two (forwardBy way (firstIn a.written)) (lagBy way a.kept) ∷ []
+abbrev pub first_calls : Way → List Float → List Float → List FrameCall
+first_calls way part x = let a = done1 part x in
+    one ∷ two (forward_by way (first_in a.written)) (lag_by way a.kept) ∷ []
 
 -- The calls of a second half.
-abbrev pub secondCalls : Way → List Float → Bool → List Float → List ℕ → List FrameCall
-secondCalls way part heard logs m = three heard (forwardBy way (lookedBack part)) logs m ∷ four ∷ []
+abbrev pub second_calls : Way → List Float → Bool → List Float → List ℕ → List FrameCall
+second_calls way part heard logs m = three heard (forward_by way (looked_back part)) logs m ∷ four ∷ []
 
 -- The calls that the rest of a piece makes: none if fewer than 480 samples are left, which then wait; otherwise the
 -- first half of the next frame.
-abbrev pub restCalls : Way → List Float → List Float → List FrameCall
-restCalls way part rest = cond (ltb (length rest) 480) [] (firstCalls way part (take 480 rest))
+abbrev pub rest_calls : Way → List Float → List Float → List FrameCall
+rest_calls way part rest = cond (ltb (length rest) 480) [] (first_calls way part (take 480 rest))
 
 -- The calls that a call of the desk is made of, if it is done, and is heard or not.
 abbrev pub calls_of : Record → List Float → Ask → Bool → List FrameCall
 calls_of rec share (opening w m) heard = []
 calls_of rec share (call1 x w) heard = one ∷ []
 calls_of rec share (call2 x lag w s) heard = two x lag ∷ []
-calls_of rec share (call2Own x w s) heard = two x (ownLag (get inputMem (get framePart share))) ∷ []
+calls_of rec share (call2_own x w s) heard = two x (own_lag (get input_mem (get frame_part share))) ∷ []
 calls_of rec share (call3 x logs m o) heard = three heard x logs m ∷ []
 calls_of rec share (call4 x o) heard = four ∷ []
-calls_of rec share (firstHalf x s) heard = firstCalls rec.hearing.way (get framePart share) x
-calls_of rec share (secondHalf logs m o) heard = secondCalls rec.hearing.way (get framePart share) heard logs m
+calls_of rec share (first_half x s) heard = first_calls rec.hearing.way (get frame_part share) x
+calls_of rec share (second_half logs m o) heard = second_calls rec.hearing.way (get frame_part share) heard logs m
 calls_of rec share (piece x o s) heard =
-    restCalls rec.hearing.way (get framePart share) (waitingIn rec.waiting share ++ x)
+    rest_calls rec.hearing.way (get frame_part share) (waiting_in rec.waiting share ++ x)
 calls_of rec share (resume x logs m o s) heard =
-    let part = get framePart share in
+    let part = get frame_part share in
     let way = rec.hearing.way in
-    let done = halves.secondHalf part rec.hearing logs m 480 in
-    secondCalls way part heard logs m ++ restCalls way done.kept (drop rec.progress x)
+    let done = halves.second_half part rec.hearing logs m 480 in
+    second_calls way part heard logs m ++ rest_calls way done.kept (drop rec.progress x)
 
 -- The same by the reply: a refused call is made of none.
-abbrev pub callsDone : Record → List Float → Ask → Reply → List FrameCall
-callsDone rec share ask reply = cond (passed reply) (calls_of rec share ask (isHeard reply)) []
+abbrev pub calls_done : Record → List Float → Ask → Reply → List FrameCall
+calls_done rec share ask reply = cond (passed reply) (calls_of rec share ask (is_heard reply)) []

@@ -3,8 +3,8 @@
 use Rattle.rules.specs.Common.{ℕ, zero, suc, ◌+◌, cond, List, [], ◌∷◌, ltb, Float}
 use Rattle.rules.specs.F32.{zeros}
 use Rattle.network.specs.Compute.{computed}
-use Rattle.features.specs.Features.{featuresOf, withCepstrum}
-use Rattle.features.specs.Gains.{sixTenths, gained}
+use Rattle.features.specs.Features.{features_of, with_cepstrum}
+use Rattle.features.specs.Gains.{six_tenths, gained}
 
 -- What a bench remembers.
 pub record Recalled : Type 0 where
@@ -38,30 +38,30 @@ pub record HeardFrame : Type 0 where
   pub model : List ℕ
 
 -- The row after this one; after the last comes the first.
-abbrev pub nextPlace : ℕ → ℕ
-nextPlace index = cond (ltb index 7) (index + 1) 0
+abbrev pub next_place : ℕ → ℕ
+next_place index = cond (ltb index 7) (index + 1) 0
 
 -- What is remembered after a heard frame: its features go through the six layers of the network. Each gain is at least
 -- 0.6 times the one before, and is remembered like that.
 unfoldable pub hear : Recalled → HeardFrame → Recalled
 hear m f =
-    let features = featuresOf f.correlations f.lag f.logs m.cepstra m.index in
+    let features = features_of f.correlations f.lag f.logs m.cepstra m.index in
     let rnn = (computed (zeros 22) (zeros 1) m.vad m.noise m.denoise f.model features).layers in
     record {
       gains = gained rnn.gains m.gains;
-      cepstra = withCepstrum f.logs m.cepstra m.index;
-      index = nextPlace m.index;
+      cepstra = with_cepstrum f.logs m.cepstra m.index;
+      index = next_place m.index;
       vad = rnn.vad;
       noise = rnn.noise;
       denoise = rnn.denoise;
     }
 
 -- What is remembered after several heard frames.
-unfoldable pub heardAll : Recalled → List HeardFrame → Recalled
-heardAll m [] = m
-heardAll m (f ∷ fs) = heardAll (hear m f) fs
+unfoldable pub heard_all : Recalled → List HeardFrame → Recalled
+heard_all m [] = m
+heard_all m (f ∷ fs) = heard_all (hear m f) fs
 
 -- A gain multiplied k times by 0.6, rounded each time.
 unfoldable pub faded : ℕ → Float → Float
 faded zero gain = gain
-faded (suc k) gain = faded k (sixTenths gain)
+faded (suc k) gain = faded k (six_tenths gain)

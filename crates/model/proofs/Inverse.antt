@@ -16,11 +16,11 @@ use Rattle.model.specs.declared.Kind.{Kind}
 use Rattle.model.specs.declared.Reading.{Reading}
 use Rattle.model.specs.declared.Reading.TheVariants.{Refused}
 use Rattle.rules.proofs.Refusals.{Clear, clear, by_rows}
-use Rattle.model.specs.Layer.{lengths, size_of, activationOf, activationNumber, joined, cut, bytes_of, Layer}
-use Rattle.model.specs.Layer.{layerOf, faultsOf, rest_of}
-use Rattle.model.specs.Model.{readLayers, refusingLayers}
-use Rattle.model.specs.Writer.{fileOf}
-use Rattle.model.proofs.Layer.{joined-cut}
+use Rattle.model.specs.Layer.{lengths, size_of, activation_of, activation_number, joined, cut, bytes_of, Layer}
+use Rattle.model.specs.Layer.{layer_of, faults_of, rest_of}
+use Rattle.model.specs.Model.{read_layers, refusing_layers}
+use Rattle.model.specs.Writer.{file_of}
+use Rattle.model.proofs.Layer.{joined_cut}
 
 -- arrays of these lengths
 abbrev pub Sized : List ℕ → List (List ℕ) → Type 0
@@ -29,37 +29,37 @@ Sized [] (x ∷ xs) = ⊥
 Sized (n ∷ ns) [] = ⊥
 Sized (n ∷ ns) (x ∷ xs) = (length x ≡ n) × Sized ns xs
 
-pub length-joined : (ns : List ℕ) (xs : List (List ℕ)) → Sized ns xs → length (joined xs) ≡ sum ns
-length-joined [] [] h = refl
-length-joined (n ∷ ns) (x ∷ xs) h = simp (length-append, length-joined ns xs h.1, h.0)
+pub length_joined : (ns : List ℕ) (xs : List (List ℕ)) → Sized ns xs → length (joined xs) ≡ sum ns
+length_joined [] [] h = refl
+length_joined (n ∷ ns) (x ∷ xs) h = simp (length-append, length_joined ns xs h.1, h.0)
 
-cut-joined : (ns : List ℕ) (xs : List (List ℕ)) (rest : List ℕ) → Sized ns xs → cut ns (joined xs ++ rest) ≡ xs
-cut-joined [] [] rest h = refl
-cut-joined (n ∷ ns) (x ∷ xs) rest h =
+cut_joined : (ns : List ℕ) (xs : List (List ℕ)) (rest : List ℕ) → Sized ns xs → cut ns (joined xs ++ rest) ≡ xs
+cut_joined [] [] rest h = refl
+cut_joined (n ∷ ns) (x ∷ xs) rest h =
     rw (
       ← h.0,
       append_assoc x (joined xs) rest,
       take-append_seam x (joined xs ++ rest),
       drop-append_seam x (joined xs ++ rest),
-      cut-joined ns xs rest h.1,
+      cut_joined ns xs rest h.1,
     )
 
-sized-cut : (ns s : List ℕ) → sum ns ≤ length s → Sized ns (cut ns s)
-sized-cut [] s h = tt
-sized-cut (n ∷ ns) s h = (simp length-take (omega arith), sized-cut ns (drop n s) (simp length-drop (omega arith)))
+sized_cut : (ns s : List ℕ) → sum ns ≤ length s → Sized ns (cut ns s)
+sized_cut [] s h = tt
+sized_cut (n ∷ ns) s h = (simp length-take (omega arith), sized_cut ns (drop n s) (simp length-drop (omega arith)))
 
-pub number_of : (a : ℕ) → a ≤ 2 → activationNumber (activationOf a) ≡ a
+pub number_of : (a : ℕ) → a ≤ 2 → activation_number (activation_of a) ≡ a
 number_of zero h = refl
 number_of (suc zero) h = refl
 number_of (suc (suc zero)) h = refl
 number_of (suc (suc (suc a))) h = absurd (omega arith)
 
-pub activation-of : (a : Activation) → activationOf (activationNumber a) ≡ a
-activation-of Tanh = refl
-activation-of Sigmoid = refl
-activation-of Relu = refl
+pub activation_of_lem : (a : Activation) → activation_of (activation_number a) ≡ a
+activation_of_lem Tanh = refl
+activation_of_lem Sigmoid = refl
+activation_of_lem Relu = refl
 
-pub number_small : (a : Activation) → activationNumber a ≤ 2
+pub number_small : (a : Activation) → activation_number a ≤ 2
 number_small Tanh = omega arith
 number_small Sigmoid = omega arith
 number_small Relu = omega arith
@@ -75,18 +75,18 @@ module _ (k : Kind) (l : Layer) (rest : List ℕ) (h : Fits k l) where
   abbrev ns : List ℕ
   ns = lengths k l.inputs l.neurons
 
-  pub layer-reads : layerOf k (bytes_of l ++ rest) ≡ l
-  layer-reads = rw (activation-of l.activation, cut-joined ns l.arrays rest h.arrays)
+  pub layer_reads : layer_of k (bytes_of l ++ rest) ≡ l
+  layer_reads = rw (activation_of_lem l.activation, cut_joined ns l.arrays rest h.arrays)
 
-  rest-reads : rest_of k (bytes_of l ++ rest) ≡ rest
-  rest-reads =
-      ap (λ (l' : Layer). drop (length (bytes_of l')) (bytes_of l ++ rest)) layer-reads
+  rest_reads : rest_of k (bytes_of l ++ rest) ≡ rest
+  rest_reads =
+      ap (λ (l' : Layer). drop (length (bytes_of l')) (bytes_of l ++ rest)) layer_reads
       ∙ drop-append_seam (bytes_of l) rest
 
-  layer-clear : Clear (faultsOf k (bytes_of l ++ rest))
-  layer-clear =
+  layer_clear : Clear (faults_of k (bytes_of l ++ rest))
+  layer_clear =
       let enough : sum ns ≤ length (joined l.arrays ++ rest) =
-      simp length-append (omega (arith, length-joined ns l.arrays h.arrays)) in (
+      simp length-append (omega (arith, length_joined ns l.arrays h.arrays)) in (
         le-ltb (length (bytes_of l ++ rest)) 3 (omega arith),
         (
           le-ltb _ _ h.inputs,
@@ -98,21 +98,21 @@ module _ (k : Kind) (l : Layer) (rest : List ℕ) (h : Fits k l) where
       )
 
 -- a layer that nothing refuses
-pub layer_fits : (k : Kind) (s : List ℕ) → Clear (faultsOf k s)
-    → Fits k (layerOf k s) × (s ≡ bytes_of (layerOf k s) ++ rest_of k s)
+pub layer_fits : (k : Kind) (s : List ℕ) → Clear (faults_of k s)
+    → Fits k (layer_of k s) × (s ≡ bytes_of (layer_of k s) ++ rest_of k s)
 layer_fits k [] c = absurd (true≢false c.0)
 layer_fits k (i ∷ []) c = absurd (true≢false c.0)
 layer_fits k (i ∷ n ∷ []) c = absurd (true≢false c.0)
 layer_fits k (i ∷ n ∷ a ∷ s) c =
     let long : size_of k i n ≤ length s = ltb-false _ _ c.1.1.1.1.1.0 in
-    let l = layerOf k (i ∷ n ∷ a ∷ s) in
+    let l = layer_of k (i ∷ n ∷ a ∷ s) in
     let is : i ∷ n ∷ a ∷ s ≡ bytes_of l
-    ++ drop (size_of k i n) s = simp (number_of a (ltb-false _ _ c.1.1.1.0), joined-cut, take-append-drop) in (
+    ++ drop (size_of k i n) s = simp (number_of a (ltb-false _ _ c.1.1.1.0), joined_cut, take-append-drop) in (
       record {
         inputs = ltb-false _ _ c.1.0;
         neurons = ltb-false _ _ c.1.1.0;
         some = eqb-false _ _ c.1.1.1.1.0;
-        arrays = sized-cut (lengths k i n) s long;
+        arrays = sized_cut (lengths k i n) s long;
       },
       is ∙ ap (◌++◌ (bytes_of l))
           (sym (ap (drop (length (bytes_of l))) is ∙ drop-append_seam (bytes_of l) (drop (size_of k i n) s))),
@@ -130,47 +130,47 @@ FitAll (k ∷ ks) (l ∷ ls) = Fits k l × FitAll ks ls
 -- nothing refuses the layers in front of some bytes
 abbrev pub AllClear : List Kind → List ℕ → Type 0
 AllClear [] s = Unit
-AllClear (k ∷ ks) s = Clear (faultsOf k s) × AllClear ks (rest_of k s)
+AllClear (k ∷ ks) s = Clear (faults_of k s) × AllClear ks (rest_of k s)
 
 -- they read as these layers, and nothing refuses them
 abbrev Reads : List Kind → List Layer → List ℕ → List ℕ → Type 0
-Reads ks ls rest s = (readLayers ks s ≡ (ls, rest)) × AllClear ks s
+Reads ks ls rest s = (read_layers ks s ≡ (ls, rest)) × AllClear ks s
 
-pub row_reads : (ks : List Kind) (ls : List Layer) (rest : List ℕ) → FitAll ks ls → Reads ks ls rest (fileOf ls ++ rest)
-unfolding readLayers
+pub row_reads : (ks : List Kind) (ls : List Layer) (rest : List ℕ) → FitAll ks ls → Reads ks ls rest (file_of ls ++ rest)
+unfolding read_layers
 row_reads [] [] rest h = (refl, tt)
 row_reads (k ∷ ks) (l ∷ ls) rest h =
-    let r = fileOf ls ++ rest in
-    let more = subst (Reads ks ls rest) (sym (rest-reads k l r h.0)) (row_reads ks ls rest h.1) in
-    subst (Reads (k ∷ ks) (l ∷ ls) rest) (sym (append_assoc (bytes_of l) (fileOf ls) rest)) (
-      ap (λ (r : List Layer × List ℕ). (layerOf k (bytes_of l ++ (fileOf ls ++ rest)) ∷ r.0, r.1)) more.0
-          ∙ rw (layer-reads k l r h.0),
-      (layer-clear k l r h.0, more.1),
+    let r = file_of ls ++ rest in
+    let more = subst (Reads ks ls rest) (sym (rest_reads k l r h.0)) (row_reads ks ls rest h.1) in
+    subst (Reads (k ∷ ks) (l ∷ ls) rest) (sym (append_assoc (bytes_of l) (file_of ls) rest)) (
+      ap (λ (r : List Layer × List ℕ). (layer_of k (bytes_of l ++ (file_of ls ++ rest)) ∷ r.0, r.1)) more.0
+          ∙ rw (layer_reads k l r h.0),
+      (layer_clear k l r h.0, more.1),
     )
 
-pub row_fits : (ks : List Kind) (s : List ℕ) → AllClear ks s → let r = readLayers ks s in
-    FitAll ks r.0 × (s ≡ fileOf r.0 ++ r.1)
-unfolding readLayers
+pub row_fits : (ks : List Kind) (s : List ℕ) → AllClear ks s → let r = read_layers ks s in
+    FitAll ks r.0 × (s ≡ file_of r.0 ++ r.1)
+unfolding read_layers
 row_fits [] s c = (tt, refl)
 row_fits (k ∷ ks) s c =
     let one = layer_fits k s c.0 in
     let more = row_fits ks (rest_of k s) c.1 in (
       (one.0, more.0),
-      one.1 ∙ ap (◌++◌ (bytes_of (layerOf k s))) more.1 ∙ sym (append_assoc (bytes_of (layerOf k s)) _ _),
+      one.1 ∙ ap (◌++◌ (bytes_of (layer_of k s))) more.1 ∙ sym (append_assoc (bytes_of (layer_of k s)) _ _),
     )
 
 -- what nothing refuses is right, and what holds of each refusal, and of what is right where nothing refuses, holds of
 -- the answer
 module _ (right : Reading) where
-  pub row-clear : (j : ℕ) (ks : List Kind) (s : List ℕ) → AllClear ks s → refusingLayers j ks s right ≡ right
-  unfolding refusingLayers
-  row-clear j [] s c = refl
-  row-clear j (k ∷ ks) s c = clear (λ n. Refused n j) _ (faultsOf k s) c.0 ∙ row-clear (suc j) ks (rest_of k s) c.1
+  pub row_clear : (j : ℕ) (ks : List Kind) (s : List ℕ) → AllClear ks s → refusing_layers j ks s right ≡ right
+  unfolding refusing_layers
+  row_clear j [] s c = refl
+  row_clear j (k ∷ ks) s c = clear (λ n. Refused n j) _ (faults_of k s) c.0 ∙ row_clear (suc j) ks (rest_of k s) c.1
 
-  pub by-layers : (P : Reading → Type 0) (j : ℕ) (ks : List Kind) (s : List ℕ) → ((n i : ℕ) → P (Refused n i))
-      → (AllClear ks s → P right) → P (refusingLayers j ks s right)
-  unfolding refusingLayers
-  by-layers P j [] s bad good = good tt
-  by-layers P j (k ∷ ks) s bad good =
-      by_rows (λ n. Refused n j) _ P (faultsOf k s) (λ n. bad n j)
-      (λ c. by-layers P (suc j) ks (rest_of k s) bad (λ cs. good (c, cs)))
+  pub by_layers : (P : Reading → Type 0) (j : ℕ) (ks : List Kind) (s : List ℕ) → ((n i : ℕ) → P (Refused n i))
+      → (AllClear ks s → P right) → P (refusing_layers j ks s right)
+  unfolding refusing_layers
+  by_layers P j [] s bad good = good tt
+  by_layers P j (k ∷ ks) s bad good =
+      by_rows (λ n. Refused n j) _ P (faults_of k s) (λ n. bad n j)
+      (λ c. by_layers P (suc j) ks (rest_of k s) bad (λ cs. good (c, cs)))

@@ -17,9 +17,9 @@ unfolding overwritten
 length_over out at bytes h = simp (length-append, length-take, length-drop) (omega arith)
 
 module _ (out : List ℕ) (at : ℕ) (xs ys : List ℕ) (fits : at + length xs ≤ length out) where
-  pub over-over : overwritten (overwritten out at xs) (at + length xs) ys ≡ overwritten out at (xs ++ ys)
+  pub over_over : overwritten (overwritten out at xs) (at + length xs) ys ≡ overwritten out at (xs ++ ys)
   unfolding overwritten
-  over-over =
+  over_over =
       let p = take at out ++ xs in
       let rest = drop (at + length xs) out in
       let long : length p ≡ at + length xs = simp (length-append, length-take) (omega arith) in
@@ -51,5 +51,5 @@ module _ {at : ℕ} {xs out : List ℕ} {next : ℕ} {after : List ℕ} (one : P
   both two =
       record {
         ends = two.ends ∙ rw (one.ends, length-append xs ys) (omega arith);
-        left = two.left ∙ rw (one.ends, one.left) (over-over out at xs ys (front at xs ys (length out) fits));
+        left = two.left ∙ rw (one.ends, one.left) (over_over out at xs ys (front at xs ys (length out) fits));
       }

@@ -6,9 +6,9 @@ use Rattle.rules.proofs.Refusals.{Clear}
 use Rattle.rules.proofs.Tests.{neither}
 use Rattle.model.specs.declared.Model.{Model}
 use Rattle.model.specs.declared.Reading.TheVariants.{Good}
-use Rattle.model.specs.Model.{◌≠◌, countsIn, matchFaults, read_of}
+use Rattle.model.specs.Model.{◌≠◌, counts_in, match_faults, read_of}
 use Rattle.model.specs.Laws.{Shaped, WellShaped}
-use Rattle.model.proofs.File.{Written, writes-back}
+use Rattle.model.proofs.File.{Written, writes_back}
 use Rattle.model.proofs.Places.{found_within}
 
 pub same : (a b : ℕ) → (a ≠ b) ≡ false → a ≡ b
@@ -16,8 +16,8 @@ same a b h = eqb-true a b (not-false (eqb a b) h)
 
 pub shape : (s : List ℕ) (m : Model) → Written s m → Shaped (length s) m
 shape s m w =
-    let match : Clear (matchFaults (countsIn m) 0) =
-    subst (λ (m : Model). Clear (matchFaults (countsIn m) 0)) w.model w.holds.match in
+    let match : Clear (match_faults (counts_in m) 0) =
+    subst (λ (m : Model). Clear (match_faults (counts_in m) 0)) w.model w.holds.match in
     let in18 = neither _ _ match.1.0 in
     let in18' = neither _ _ in18.1 in
     let in19 = neither _ _ match.1.1.0 in
@@ -32,15 +32,15 @@ shape s m w =
       features = same _ _ in18.0;
       gains = same _ _ in18'.0;
       voice = same _ _ in18'.1;
-      vad-reads = same _ _ in19.0;
-      voice-reads = same _ _ in19.1;
-      noise-reads = same _ _ match.1.1.1.0;
-      denoise-reads = same _ _ match.1.1.1.1.0;
-      gains-read = same _ _ match.1.1.1.1.1.0;
+      vad_reads = same _ _ in19.0;
+      voice_reads = same _ _ in19.1;
+      noise_reads = same _ _ match.1.1.1.0;
+      denoise_reads = same _ _ match.1.1.1.1.0;
+      gains_read = same _ _ match.1.1.1.1.1.0;
     }
 
 pub shaped : (s : List ℕ) {m : Model} → Good m ≡ read_of s → Shaped (length s) m
-shaped s {m} e = shape s m (rw (← e) at (writes-back s))
+shaped s {m} e = shape s m (rw (← e) at (writes_back s))
 
-pub well-shaped : WellShaped
-well-shaped s m e = shaped s e
+pub well_shaped : WellShaped
+well_shaped s m e = shaped s e

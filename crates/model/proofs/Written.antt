@@ -12,35 +12,35 @@ use lib.ListN.{length-map, take-append-drop}
 use lib.Seq.{take-append_seam, take_at, drop_at}
 use Rattle.rules.specs.Leaf.{◌leaving◌}
 use Rattle.rules.specs.Refusals.{◌when◌}
-use Rattle.rules.proofs.Refusals.{Clear, clear, none-held}
+use Rattle.rules.proofs.Refusals.{Clear, clear, none_held}
 use Rattle.rules.proofs.Tests.{neither}
 use Rattle.model.specs.declared.Kind.{Kind}
 use Rattle.model.specs.declared.Kind.TheVariants.{Dense, Gru}
 use Rattle.model.specs.Layer.{lengths, Layer}
-use Rattle.model.specs.Model.{◌≠◌, kinds, headersAt, modelOf, countsIn, matchFaults, read_of}
-use Rattle.model.specs.Writer.{layersGiven, fileOf, differ, inLayer, rowFaults, countsGiven, writerFaults}
-use Rattle.model.specs.Writer.{writeModel}
-use Rattle.model.specs.Laws.{layersRead, shapesOf, arraysIn, ReadsBack, WritesBack, NoneShared, ArraysAreRead}
-use Rattle.model.proofs.Rows.{clear-shifted, clear-joined}
+use Rattle.model.specs.Model.{◌≠◌, kinds, headers_at, model_of, counts_in, match_faults, read_of}
+use Rattle.model.specs.Writer.{layers_given, file_of, differ, in_layer, row_faults, counts_given, writer_faults}
+use Rattle.model.specs.Writer.{write_model}
+use Rattle.model.specs.Laws.{layers_read, shapes_of, arrays_in, ReadsBack, WritesBack, NoneShared, ArraysAreRead}
+use Rattle.model.proofs.Rows.{clear_shifted, clear_joined}
 use Rattle.model.proofs.Layer.{three}
-use Rattle.model.proofs.Inverse.{Sized, number_of, activation-of, number_small, FitAll}
-use Rattle.model.proofs.File.{Holds, reads-back, layers-read, same-layers, Written, writes-back}
+use Rattle.model.proofs.Inverse.{Sized, number_of, activation_of_lem, number_small, FitAll}
+use Rattle.model.proofs.File.{Holds, reads_back, layers_read_lem, same_layers, Written, writes_back}
 use Rattle.model.proofs.Shapes.{same}
-use Rattle.model.proofs.Arrays.{array-is}
+use Rattle.model.proofs.Arrays.{array_is}
 use Rattle.model.proofs.Accepted.{EachClear, accepted}
 
 -- ---- lengths
 
 module _ {A B : Type 0} (f : A → B) where
-  take-map : (n : ℕ) (xs : List A) → take n (map f xs) ≡ map f (take n xs)
-  take-map zero xs = refl
-  take-map (suc n) [] = refl
-  take-map (suc n) (x ∷ xs) = ap (◌∷◌ (f x)) (take-map n xs)
+  take_map : (n : ℕ) (xs : List A) → take n (map f xs) ≡ map f (take n xs)
+  take_map zero xs = refl
+  take_map (suc n) [] = refl
+  take_map (suc n) (x ∷ xs) = ap (◌∷◌ (f x)) (take_map n xs)
 
-  drop-map : (n : ℕ) (xs : List A) → drop n (map f xs) ≡ map f (drop n xs)
-  drop-map zero xs = refl
-  drop-map (suc n) [] = refl
-  drop-map (suc n) (x ∷ xs) = drop-map n xs
+  drop_map : (n : ℕ) (xs : List A) → drop n (map f xs) ≡ map f (drop n xs)
+  drop_map zero xs = refl
+  drop_map (suc n) [] = refl
+  drop_map (suc n) (x ∷ xs) = drop_map n xs
 
 -- arrays have these lengths where theirs do not differ from them
 sized : (ns : List ℕ) (xs : List (List ℕ)) → differ (map length xs) ns ≡ false → Sized ns xs
@@ -57,153 +57,153 @@ as_many : (ns : List ℕ) (xs : List (List ℕ)) → Sized ns xs → length xs �
 as_many [] [] h = refl
 as_many (n ∷ ns) (x ∷ xs) h = ap suc (as_many ns xs h.1)
 
-three-arrays : (k : Kind) (i n : ℕ) (xs : List (List ℕ)) → Sized (lengths k i n) xs → length xs ≡ 3
-three-arrays Dense i n xs h = as_many (lengths Dense i n) xs h
-three-arrays Gru i n xs h = as_many (lengths Gru i n) xs h
+three_arrays : (k : Kind) (i n : ℕ) (xs : List (List ℕ)) → Sized (lengths k i n) xs → length xs ≡ 3
+three_arrays Dense i n xs h = as_many (lengths Dense i n) xs h
+three_arrays Gru i n xs h = as_many (lengths Gru i n) xs h
 
 -- ---- layers as they are given, and back
 
-given-fit : (ks : List Kind) (s : List ℕ) (xs : List (List ℕ)) → EachClear ks s (map length xs)
-    → FitAll ks (layersGiven ks s xs)
-given-fit [] s xs c = tt
-given-fit (k ∷ ks) s xs c = (
+given_fit : (ks : List Kind) (s : List ℕ) (xs : List (List ℕ)) → EachClear ks s (map length xs)
+    → FitAll ks (layers_given ks s xs)
+given_fit [] s xs c = tt
+given_fit (k ∷ ks) s xs c = (
   record {
     inputs = ltb-false 127 (get_or s 0 0) c.0.0;
     neurons = ltb-false 127 (get_or s 1 0) c.0.1.0;
     some = eqb-false (get_or s 1 0) 0 c.0.1.1.1.0;
     arrays =
-        sized (lengths k (get_or s 0 0) (get_or s 1 0)) (take 3 xs) (rw (take-map length 3 xs) at c.0.1.1.1.1.0);
+        sized (lengths k (get_or s 0 0) (get_or s 1 0)) (take 3 xs) (rw (take_map length 3 xs) at c.0.1.1.1.1.0);
   },
-  given-fit ks (drop 3 s) (drop 3 xs) (rw (drop-map length 3 xs) at c.1),
+  given_fit ks (drop 3 s) (drop 3 xs) (rw (drop_map length 3 xs) at c.1),
 )
 
-shapes-back : (ks : List Kind) (s : List ℕ) (xs : List (List ℕ)) (ns : List ℕ) → length s ≡ 3 * length ks
-    → EachClear ks s ns → shapesOf (layersGiven ks s xs) ≡ s
-shapes-back [] [] xs ns e c = refl
-shapes-back [] (x ∷ s) xs ns e c = absurd (omega arith)
-shapes-back (k ∷ ks) s xs ns e c =
+shapes_back : (ks : List Kind) (s : List ℕ) (xs : List (List ℕ)) (ns : List ℕ) → length s ≡ 3 * length ks
+    → EachClear ks s ns → shapes_of (layers_given ks s xs) ≡ s
+shapes_back [] [] xs ns e c = refl
+shapes_back [] (x ∷ s) xs ns e c = absurd (omega arith)
+shapes_back (k ∷ ks) s xs ns e c =
     rw (
       number_of (get_or s 2 0) (ltb-false 2 (get_or s 2 0) c.0.1.1.0),
-      shapes-back ks (drop 3 s) (drop 3 xs) (drop 3 ns) (simp length-drop (omega arith)) c.1,
+      shapes_back ks (drop 3 s) (drop 3 xs) (drop 3 ns) (simp length-drop (omega arith)) c.1,
     )
     (sym (three s 0 (omega arith)))
 
-arrays-back : (ks : List Kind) (s : List ℕ) (xs : List (List ℕ)) → length xs ≡ 3 * length ks
-    → arraysIn (layersGiven ks s xs) ≡ xs
-arrays-back [] s [] e = refl
-arrays-back [] s (x ∷ xs) e = absurd (omega arith)
-arrays-back (k ∷ ks) s xs e =
-    rw (arrays-back ks (drop 3 s) (drop 3 xs) (simp length-drop (omega arith))) (take-append-drop 3 xs)
+arrays_back : (ks : List Kind) (s : List ℕ) (xs : List (List ℕ)) → length xs ≡ 3 * length ks
+    → arrays_in (layers_given ks s xs) ≡ xs
+arrays_back [] s [] e = refl
+arrays_back [] s (x ∷ xs) e = absurd (omega arith)
+arrays_back (k ∷ ks) s xs e =
+    rw (arrays_back ks (drop 3 s) (drop 3 xs) (simp length-drop (omega arith))) (take-append-drop 3 xs)
 
-given_back : (ks : List Kind) (ls : List Layer) → FitAll ks ls → layersGiven ks (shapesOf ls) (arraysIn ls) ≡ ls
+given_back : (ks : List Kind) (ls : List Layer) → FitAll ks ls → layers_given ks (shapes_of ls) (arrays_in ls) ≡ ls
 given_back [] [] f = refl
 given_back (k ∷ ks) (l ∷ ls) f =
-    let long = three-arrays k l.inputs l.neurons l.arrays f.0.arrays in
+    let long = three_arrays k l.inputs l.neurons l.arrays f.0.arrays in
     rw (
-      activation-of l.activation,
-      take_at l.arrays (arraysIn ls) 3 long,
-      drop_at l.arrays (arraysIn ls) 3 long,
+      activation_of_lem l.activation,
+      take_at l.arrays (arrays_in ls) 3 long,
+      drop_at l.arrays (arrays_in ls) 3 long,
       given_back ks ls f.1,
     )
 
-clear-back : (j : ℕ) (ks : List Kind) (ls : List Layer) → FitAll ks ls
-    → Clear (rowFaults j ks (shapesOf ls) (map length (arraysIn ls)))
-unfolding rowFaults
-clear-back j [] [] f = tt
-clear-back j (k ∷ ks) (l ∷ ls) f =
-    let long = length-map l.arrays length ∙ three-arrays k l.inputs l.neurons l.arrays f.0.arrays in
+clear_back : (j : ℕ) (ks : List Kind) (ls : List Layer) → FitAll ks ls
+    → Clear (row_faults j ks (shapes_of ls) (map length (arrays_in ls)))
+unfolding row_faults
+clear_back j [] [] f = tt
+clear_back j (k ∷ ks) (l ∷ ls) f =
+    let long = length-map l.arrays length ∙ three_arrays k l.inputs l.neurons l.arrays f.0.arrays in
     let fits = unsized (lengths k l.inputs l.neurons) l.arrays f.0.arrays in
     rw (
-      map-append length l.arrays (arraysIn ls),
-      take_at (map length l.arrays) (map length (arraysIn ls)) 3 long,
-      drop_at (map length l.arrays) (map length (arraysIn ls)) 3 long,
+      map-append length l.arrays (arrays_in ls),
+      take_at (map length l.arrays) (map length (arrays_in ls)) 3 long,
+      drop_at (map length l.arrays) (map length (arrays_in ls)) 3 long,
     ) (
       le-ltb _ _ f.0.inputs,
       (
         le-ltb _ _ f.0.neurons,
-        (le-ltb _ _ (number_small l.activation), (ne_eqb _ _ f.0.some, (fits, clear-back (suc j) ks ls f.1))),
+        (le-ltb _ _ (number_small l.activation), (ne_eqb _ _ f.0.some, (fits, clear_back (suc j) ks ls f.1))),
       ),
     )
 
-length-shapes : (ks : List Kind) (ls : List Layer) → FitAll ks ls → length (shapesOf ls) ≡ 3 * length ks
-length-shapes [] [] f = refl
-length-shapes (k ∷ ks) (l ∷ ls) f = omega (arith, length-shapes ks ls f.1)
+length_shapes : (ks : List Kind) (ls : List Layer) → FitAll ks ls → length (shapes_of ls) ≡ 3 * length ks
+length_shapes [] [] f = refl
+length_shapes (k ∷ ks) (l ∷ ls) f = omega (arith, length_shapes ks ls f.1)
 
 -- ---- a writing that is done
 
 record Done (s : List ℕ) (xs : List (List ℕ)) (out after : List ℕ) : Type 0 where
   eighteen : length s ≡ 18
   good : EachClear kinds s (map length xs)
-  holds : Holds (layersGiven kinds s xs) (fileOf (layersGiven kinds s xs))
-  left : after ≡ fileOf (layersGiven kinds s xs) ++ drop (length (fileOf (layersGiven kinds s xs))) out
+  holds : Holds (layers_given kinds s xs) (file_of (layers_given kinds s xs))
+  left : after ≡ file_of (layers_given kinds s xs) ++ drop (length (file_of (layers_given kinds s xs))) out
 
-is-done : (s : List ℕ) (xs : List (List ℕ)) (out after : List ℕ) → (0 leaving after) ≡ writeModel s xs out
+is_done : (s : List ℕ) (xs : List (List ℕ)) (out after : List ℕ) → (0 leaving after) ≡ write_model s xs out
     → Done s xs out after
-unfolding writeModel writerFaults rowFaults countsGiven
-is-done s xs out after e =
-    let file = fileOf (layersGiven kinds s xs) in
+unfolding write_model writer_faults row_faults counts_given
+is_done s xs out after e =
+    let file = file_of (layers_given kinds s xs) in
     let ns = map length xs in
-    let rows = 5 when (length s ≠ 18) ∷ writerFaults s ns (length file) (length out) in
+    let rows = 5 when (length s ≠ 18) ∷ writer_faults s ns (length file) (length out) in
     let right : ℕ × List ℕ = (0 leaving file ++ drop (length file) out) in
-    let c = none-held (λ (p : ℕ × List ℕ). p.0) (λ n. n leaving out) right (λ n. refl) rows tt
+    let c = none_held (λ (p : ℕ × List ℕ). p.0) (λ n. n leaving out) right (λ n. refl) rows tt
     (ap (λ (p : ℕ × List ℕ). p.0) (sym e)) in
     let a = accepted s ns (length file) (length out) c.1 in
     let done : (0 leaving after) ≡ right = e ∙ clear (λ n. n leaving out) right rows c in
     record {
       eighteen = same (length s) 18 c.0;
       good = a.layers;
-      holds = record { fit = given-fit kinds s xs a.layers; match = a.together; file = refl };
+      holds = record { fit = given_fit kinds s xs a.layers; match = a.together; file = refl };
       left = ap (λ (p : ℕ × List ℕ). p.1) done;
     }
 
-pub written-reads : ReadsBack
-written-reads s xs out after e =
-    let d = is-done s xs out after e in
-    let ls = layersGiven kinds s xs in
-    let file : take (length (fileOf ls)) after ≡ fileOf ls =
-    rw d.left (take-append_seam (fileOf ls) (drop (length (fileOf ls)) out)) in
-    (ap read_of file ∙ reads-back ls (fileOf ls) d.holds, ap layersRead file ∙ layers-read ls d.holds.fit)
+pub written_reads : ReadsBack
+written_reads s xs out after e =
+    let d = is_done s xs out after e in
+    let ls = layers_given kinds s xs in
+    let file : take (length (file_of ls)) after ≡ file_of ls =
+    rw d.left (take-append_seam (file_of ls) (drop (length (file_of ls)) out)) in
+    (ap read_of file ∙ reads_back ls (file_of ls) d.holds, ap layers_read file ∙ layers_read_lem ls d.holds.fit)
 
-pub none-shared : NoneShared
-none-shared s s' xs xs' out out' after after' long long' e e' shared =
-    let d = is-done s xs out after e in
-    let d' = is-done s' xs' out' after' e' in
-    let both = same-layers (layersGiven kinds s xs) (layersGiven kinds s' xs') d.holds.fit
+pub none_shared : NoneShared
+none_shared s s' xs xs' out out' after after' long long' e e' shared =
+    let d = is_done s xs out after e in
+    let d' = is_done s' xs' out' after' e' in
+    let both = same_layers (layers_given kinds s xs) (layers_given kinds s' xs') d.holds.fit
     d'.holds.fit shared in (
-      sym (shapes-back kinds s xs (map length xs) d.eighteen d.good) ∙ ap shapesOf both
-          ∙ shapes-back kinds s' xs' (map length xs') d'.eighteen d'.good,
-      sym (arrays-back kinds s xs long) ∙ ap arraysIn both ∙ arrays-back kinds s' xs' long',
+      sym (shapes_back kinds s xs (map length xs) d.eighteen d.good) ∙ ap shapes_of both
+          ∙ shapes_back kinds s' xs' (map length xs') d'.eighteen d'.good,
+      sym (arrays_back kinds s xs long) ∙ ap arrays_in both ∙ arrays_back kinds s' xs' long',
     )
 
 -- layers that fit and go together are written as their file
-writes-layers : (ls : List Layer) (out : List ℕ) → FitAll kinds ls
-    → Clear (matchFaults (countsIn (modelOf (headersAt 0 ls))) 0) → length (fileOf ls) ≤ length out
-    → (0 leaving fileOf ls ++ drop (length (fileOf ls)) out) ≡ writeModel (shapesOf ls) (arraysIn ls) out
-unfolding writeModel writerFaults countsGiven
-writes-layers ls out fit match enough =
-    let s = shapesOf ls in
-    let ns = map length (arraysIn ls) in
+writes_layers : (ls : List Layer) (out : List ℕ) → FitAll kinds ls
+    → Clear (match_faults (counts_in (model_of (headers_at 0 ls))) 0) → length (file_of ls) ≤ length out
+    → (0 leaving file_of ls ++ drop (length (file_of ls)) out) ≡ write_model (shapes_of ls) (arrays_in ls) out
+unfolding write_model writer_faults counts_given
+writes_layers ls out fit match enough =
+    let s = shapes_of ls in
+    let ns = map length (arrays_in ls) in
     let back = given_back kinds ls fit in
-    let file = fileOf (layersGiven kinds s (arraysIn ls)) in
-    let match' : Clear (matchFaults (countsGiven kinds s) 0) =
-    subst (λ (ls : List Layer). Clear (matchFaults (countsIn (modelOf (headersAt 0 ls))) 0)) (sym back) match in
+    let file = file_of (layers_given kinds s (arrays_in ls)) in
+    let match' : Clear (match_faults (counts_given kinds s) 0) =
+    subst (λ (ls : List Layer). Clear (match_faults (counts_in (model_of (headers_at 0 ls))) 0)) (sym back) match in
     let enough' : length file ≤ length out =
-    subst (λ (ls : List Layer). length (fileOf ls) ≤ length out) (sym back) enough in
+    subst (λ (ls : List Layer). length (file_of ls) ≤ length out) (sym back) enough in
     let last = 24 when ltb (length out) (length file) ∷ [] in
-    let together = matchFaults (countsGiven kinds s) 0 in
+    let together = match_faults (counts_given kinds s) 0 in
     let c =
-    clear-joined (rowFaults 0 kinds s ns) (inLayer 6 (together ++ last)) (clear-back 0 kinds ls fit)
-    (clear-shifted 6 (together ++ last) (clear-joined together last match' (le-ltb _ _ enough', tt))) in
-    let none : not (eqb (length s) 18) ≡ false = rw (eq-eqb (length s) 18 (length-shapes kinds ls fit)) in
+    clear_joined (row_faults 0 kinds s ns) (in_layer 6 (together ++ last)) (clear_back 0 kinds ls fit)
+    (clear_shifted 6 (together ++ last) (clear_joined together last match' (le-ltb _ _ enough', tt))) in
+    let none : not (eqb (length s) 18) ≡ false = rw (eq-eqb (length s) 18 (length_shapes kinds ls fit)) in
     sym (clear (λ n. n leaving out) (0 leaving file ++ drop (length file) out)
-    (5 when (length s ≠ 18) ∷ writerFaults s ns (length file) (length out)) (none, c)
-    ∙ ap (λ (ls : List Layer). 0 leaving fileOf ls ++ drop (length (fileOf ls)) out) back)
+    (5 when (length s ≠ 18) ∷ writer_faults s ns (length file) (length out)) (none, c)
+    ∙ ap (λ (ls : List Layer). 0 leaving file_of ls ++ drop (length (file_of ls)) out) back)
 
-pub read-writes : WritesBack
-read-writes s out m e enough =
-    let w : Written s m = rw (← e) at (writes-back s) in
-    let long : length (fileOf (layersRead s)) ≤ length out = rw (← w.holds.file) enough in
-    rw (← w.holds.file) at (writes-layers (layersRead s) out w.holds.fit w.holds.match long)
+pub read_writes : WritesBack
+read_writes s out m e enough =
+    let w : Written s m = rw (← e) at (writes_back s) in
+    let long : length (file_of (layers_read s)) ≤ length out = rw (← w.holds.file) enough in
+    rw (← w.holds.file) at (writes_layers (layers_read s) out w.holds.fit w.holds.match long)
 
-pub arrays-are-read : ArraysAreRead
-arrays-are-read s m e j h which = rw (← e) (array-is s (rw (← e) at (writes-back s)) j h which)
+pub arrays_are_read : ArraysAreRead
+arrays_are_read s m e j h which = rw (← e) (array_is s (rw (← e) at (writes_back s)) j h which)

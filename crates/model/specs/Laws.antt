@@ -10,47 +10,47 @@ use Rattle.model.specs.declared.Kind.{Kind}
 use Rattle.model.specs.declared.Kind.TheVariants.{Dense, Gru}
 use Rattle.model.specs.declared.Model.{Model}
 use Rattle.model.specs.declared.Reading.TheVariants.{Good, Refused}
-use Rattle.model.specs.Array.{foundIn, arrayIn}
-use Rattle.model.specs.Layer.{size_of, activationNumber, Layer, bytes_of, layerOf, faultsOf, stepNumber, stepValues}
-use Rattle.model.specs.Layer.{stepAt}
-use Rattle.model.specs.Model.{kinds, readLayers, headersAt, modelOf, read_of}
-use Rattle.model.specs.Writer.{layersGiven, fileOf, writeModel}
+use Rattle.model.specs.Array.{found_in, array_in}
+use Rattle.model.specs.Layer.{size_of, activation_number, Layer, bytes_of, layer_of, faults_of, step_number, step_values}
+use Rattle.model.specs.Layer.{step_at}
+use Rattle.model.specs.Model.{kinds, read_layers, headers_at, model_of, read_of}
+use Rattle.model.specs.Writer.{layers_given, file_of, write_model}
 
 -- The layers that a file reads as.
-abbrev pub layersRead : List ℕ → List Layer
-layersRead s = (readLayers kinds s).0
+abbrev pub layers_read : List ℕ → List Layer
+layers_read s = (read_layers kinds s).0
 
 -- The numbers of these layers, as a caller of the writer gives them.
-abbrev pub shapesOf : List Layer → List ℕ
-shapesOf [] = []
-shapesOf (l ∷ ls) = l.inputs ∷ l.neurons ∷ activationNumber l.activation ∷ shapesOf ls
+abbrev pub shapes_of : List Layer → List ℕ
+shapes_of [] = []
+shapes_of (l ∷ ls) = l.inputs ∷ l.neurons ∷ activation_number l.activation ∷ shapes_of ls
 
 -- The arrays of these layers, as a caller of the writer gives them.
-abbrev pub arraysIn : List Layer → List (List ℕ)
-arraysIn [] = []
-arraysIn (l ∷ ls) = l.arrays ++ arraysIn ls
+abbrev pub arrays_in : List Layer → List (List ℕ)
+arrays_in [] = []
+arrays_in (l ∷ ls) = l.arrays ++ arrays_in ls
 
 -- What is written reads back as the same layers.
 abbrev pub ReadsBack : Type 0
 ReadsBack =
-    (shapes : List ℕ) (arrays : List (List ℕ)) (out after : List ℕ) → (0 leaving after) ≡ writeModel shapes arrays out
-    → let ls = layersGiven kinds shapes arrays in
-    let file = take (length (fileOf ls)) after in
-    (read_of file ≡ Good (modelOf (headersAt 0 ls))) × (layersRead file ≡ ls)
+    (shapes : List ℕ) (arrays : List (List ℕ)) (out after : List ℕ) → (0 leaving after) ≡ write_model shapes arrays out
+    → let ls = layers_given kinds shapes arrays in
+    let file = take (length (file_of ls)) after in
+    (read_of file ≡ Good (model_of (headers_at 0 ls))) × (layers_read file ≡ ls)
 
 -- What reads is written back byte for byte.
 abbrev pub WritesBack : Type 0
 WritesBack =
     (s out : List ℕ) (m : Model) → Good m ≡ read_of s → length s ≤ length out
-    → let ls = layersRead s in (0 leaving s ++ drop (length s) out) ≡ writeModel (shapesOf ls) (arraysIn ls) out
+    → let ls = layers_read s in (0 leaving s ++ drop (length s) out) ≡ write_model (shapes_of ls) (arrays_in ls) out
 
 -- Two models that differ in a count, an activation, a weight or a bias never have the same file.
 abbrev pub NoneShared : Type 0
 NoneShared =
     (shapes shapes' : List ℕ) (arrays arrays' : List (List ℕ)) (out out' after after' : List ℕ) → length arrays ≡ 18
     → length arrays' ≡ 18
-    → (0 leaving after) ≡ writeModel shapes arrays out → (0 leaving after') ≡ writeModel shapes' arrays' out'
-    → fileOf (layersGiven kinds shapes arrays) ≡ fileOf (layersGiven kinds shapes' arrays')
+    → (0 leaving after) ≡ write_model shapes arrays out → (0 leaving after') ≡ write_model shapes' arrays' out'
+    → file_of (layers_given kinds shapes arrays) ≡ file_of (layers_given kinds shapes' arrays')
     → (shapes ≡ shapes') × (arrays ≡ arrays')
 
 -- ---- what reads
@@ -60,23 +60,23 @@ NoneShared =
 abbrev pub StepInPaper : Type 0
 StepInPaper =
     (k : Kind) (s : List ℕ) (at : ℕ)
-    → let l = layerOf k (drop at s) in
-    let rows = faultsOf k (drop at s) in
-    (stepNumber (stepAt k s at) ≡ refusing rows (λ n. n) 0)
-    × (stepValues (stepAt k s at)
+    → let l = layer_of k (drop at s) in
+    let rows = faults_of k (drop at s) in
+    (step_number (step_at k s at) ≡ refusing rows (λ n. n) 0)
+    × (step_values (step_at k s at)
     ≡ refusing rows (λ n. [])
-    (l.inputs ∷ l.neurons ∷ activationNumber l.activation ∷ (at + 3) ∷ (at + length (bytes_of l)) ∷ []))
+    (l.inputs ∷ l.neurons ∷ activation_number l.activation ∷ (at + 3) ∷ (at + length (bytes_of l)) ∷ []))
 
 -- Layer j of some layers; after the last, a layer without arrays.
-abbrev pub layerIn : List Layer → ℕ → Layer
-layerIn ls j = get_or ls j (record { inputs = 0; neurons = 0; activation = Tanh; arrays = [] })
+abbrev pub layer_in : List Layer → ℕ → Layer
+layer_in ls j = get_or ls j (record { inputs = 0; neurons = 0; activation = Tanh; arrays = [] })
 
 -- An array that is handed out of a file is the array of the layer that the file reads as. So what is written back is
 -- what was handed out.
 abbrev pub ArraysAreRead : Type 0
 ArraysAreRead =
     (s : List ℕ) (m : Model) → Good m ≡ read_of s → (j : ℕ) → j < 6 → (which : ℕ)
-    → get (arrayIn (foundIn (read_of s) j) which) s ≡ get_or (layerIn (layersRead s) j).arrays which []
+    → get (array_in (found_in (read_of s) j) which) s ≡ get_or (layer_in (layers_read s) j).arrays which []
 
 -- A layer whose header and arrays are within this number of bytes.
 pub record LiesIn (size : ℕ) (k : Kind) (h : Header) : Type 0 where
@@ -106,15 +106,15 @@ pub record Shaped (size : ℕ) (m : Model) : Type 0 where
   -- The probability of a voice is one number.
   pub voice : m.vad_output.neurons ≡ 1
   -- vad_gru reads what input_dense gives.
-  pub vad-reads : m.input_dense.neurons ≡ m.vad_gru.inputs
+  pub vad_reads : m.input_dense.neurons ≡ m.vad_gru.inputs
   -- vad_output reads what vad_gru gives.
-  pub voice-reads : m.vad_gru.neurons ≡ m.vad_output.inputs
+  pub voice_reads : m.vad_gru.neurons ≡ m.vad_output.inputs
   -- noise_gru reads the features and what input_dense and vad_gru give.
-  pub noise-reads : 42 + m.input_dense.neurons + m.vad_gru.neurons ≡ m.noise_gru.inputs
+  pub noise_reads : 42 + m.input_dense.neurons + m.vad_gru.neurons ≡ m.noise_gru.inputs
   -- denoise_gru reads the features and what vad_gru and noise_gru give.
-  pub denoise-reads : 42 + m.vad_gru.neurons + m.noise_gru.neurons ≡ m.denoise_gru.inputs
+  pub denoise_reads : 42 + m.vad_gru.neurons + m.noise_gru.neurons ≡ m.denoise_gru.inputs
   -- denoise_output reads what denoise_gru gives.
-  pub gains-read : m.denoise_gru.neurons ≡ m.denoise_output.inputs
+  pub gains_read : m.denoise_gru.neurons ≡ m.denoise_output.inputs
 
 -- Every file that reads has such a model.
 abbrev pub WellShaped : Type 0

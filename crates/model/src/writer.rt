@@ -3,10 +3,10 @@
 ghost use Rattle.std.specs.Prelude.{◌≡◌, [], ◌∷◌, ◌+◌, ◌≤◌, ◌<◌, ltb, length};
 ghost use Rattle.rules.specs.Leaf.{◌leaving◌};
 ghost use Rattle.rules.specs.Lists.{Bytes, sum};
-ghost use Rattle.model.specs.Model.{kinds, matchFaults};
-ghost use Rattle.model.specs.Writer.{arraysOf, layerFaults, inLayer, rowFaults, countsGiven, writerFaults};
-ghost use Rattle.model.specs.Writer.{writeModel};
-ghost use Rattle.model.specs.Private.{faultIn, Few, countsThere, headerBytes, layerBytes, threeBytes, Put};
+ghost use Rattle.model.specs.Model.{kinds, match_faults};
+ghost use Rattle.model.specs.Writer.{arrays_of, layer_faults, in_layer, row_faults, counts_given, writer_faults};
+ghost use Rattle.model.specs.Writer.{write_model};
+ghost use Rattle.model.specs.Private.{fault_in, Few, counts_there, header_bytes, layer_bytes, three_bytes, Put};
 
 use crate::{Counts, Kind};
 
@@ -26,7 +26,7 @@ fn layer_fault(
     recurrent: usize,
     bias: usize,
 ) -> u32
-    ensures { result ≡ faultIn (layerFaults kind inputs neurons number (weights ∷ recurrent ∷ bias ∷ [])) }
+    ensures { result ≡ fault_in (layer_faults kind inputs neurons number (weights ∷ recurrent ∷ bias ∷ [])) }
 {
     let fault = crate::header_fault(inputs, neurons, number);
     if fault != 0 {
@@ -48,7 +48,7 @@ fn layer_fault(
 // Refusals 12 to 16 of each layer in turn, with the layer, or 0.
 fn layers_fault(shapes: &[u32], lengths: [usize; 18]) -> u32
     requires { length shapes.now ≡ 18 }
-    ensures { result ≡ faultIn (rowFaults 0 kinds shapes.now lengths) }
+    ensures { result ≡ fault_in (row_faults 0 kinds shapes.now lengths) }
 {
     let kinds = crate::kinds_in_row();
     for layer in 0..6 {
@@ -71,7 +71,7 @@ fn layers_fault(shapes: &[u32], lengths: [usize; 18]) -> u32
 
 fn counts_there(shapes: &[u32], at: usize) -> Counts
     requires { at + 1 < length shapes.now }
-    ensures { result ≡ countsThere shapes.now at }
+    ensures { result ≡ counts_there shapes.now at }
 {
     Counts {
         inputs: wide(shapes[at]),
@@ -81,7 +81,7 @@ fn counts_there(shapes: &[u32], at: usize) -> Counts
 
 fn counts_given(shapes: &[u32]) -> [Counts; 6]
     requires { length shapes.now ≡ 18 }
-    ensures { result ≡ countsGiven kinds shapes.now }
+    ensures { result ≡ counts_given kinds shapes.now }
 {
     [
         counts_there(shapes, 0),
@@ -96,7 +96,7 @@ fn counts_given(shapes: &[u32]) -> [Counts; 6]
 // Refusals 18 to 22, with layer 6, or 0.
 fn model_fault(counts: [Counts; 6]) -> u32
     requires { Few counts }
-    ensures { result ≡ faultIn (inLayer 6 (matchFaults counts 0)) }
+    ensures { result ≡ fault_in (in_layer 6 (match_faults counts 0)) }
 {
     let fault = crate::match_fault(counts, 0);
     if fault != 0 {
@@ -125,7 +125,7 @@ fn too_short(buffer: usize, lengths: [usize; 18]) -> bool
 // Every refusal in turn, or 0.
 fn fault_of(shapes: &[u32], lengths: [usize; 18], buffer: usize) -> u32
     requires { length shapes.now ≡ 18 }
-    ensures { result ≡ faultIn (writerFaults shapes.now lengths (18 + sum lengths) buffer) }
+    ensures { result ≡ fault_in (writer_faults shapes.now lengths (18 + sum lengths) buffer) }
 {
     let fault = layers_fault(shapes, lengths);
     if fault != 0 {
@@ -154,7 +154,7 @@ fn put(out: &mut [u8], at: usize, bytes: &[u8]) -> usize
 
 fn header_bytes(shapes: &[u32], first: usize) -> [u8; 3]
     requires { (first + 2 < length shapes.now) × Bytes shapes.now }
-    ensures { result ≡ headerBytes shapes.now first }
+    ensures { result ≡ header_bytes shapes.now first }
 {
     [
         shapes[first] as u8,
@@ -173,8 +173,8 @@ fn put_layer(
     bias: &[u8],
 ) -> usize
     requires { (first + 2 < length shapes.now) × Bytes shapes.now
-        × (at + length (layerBytes shapes.now first weights.now recurrent.now bias.now) ≤ length out.old) }
-    ensures { Put at (layerBytes shapes.now first weights.now recurrent.now
+        × (at + length (layer_bytes shapes.now first weights.now recurrent.now bias.now) ≤ length out.old) }
+    ensures { Put at (layer_bytes shapes.now first weights.now recurrent.now
         bias.now)
         out.old result out.new }
 {
@@ -202,10 +202,10 @@ fn put_three(
     b2: &[u8],
 ) -> usize
     requires { (first + 8 < length shapes.now) × Bytes shapes.now
-        × (at + length (threeBytes shapes.now first w0.now r0.now b0.now w1.now r1.now b1.now w2.now
+        × (at + length (three_bytes shapes.now first w0.now r0.now b0.now w1.now r1.now b1.now w2.now
         r2.now b2.now)
         ≤ length out.old) }
-    ensures { Put at (threeBytes shapes.now first w0.now r0.now
+    ensures { Put at (three_bytes shapes.now first w0.now r0.now
         b0.now
         w1.now r1.now b1.now w2.now r2.now b2.now)
         out.old result out.new }
@@ -236,8 +236,8 @@ pub fn write(
     w5: &[u8],
     b5: &[u8],
 ) -> u32
-    ensures { (result leaving (λ x. x.now) out.exit) ≡ writeModel shapes.now
-        (arraysOf w0.now b0.now w1.now r1.now b1.now
+    ensures { (result leaving out.new) ≡ write_model shapes.now
+        (arrays_of w0.now b0.now w1.now r1.now b1.now
         w2.now r2.now b2.now w3.now r3.now b3.now
         w4.now b4.now w5.now b5.now) out.old }
 {

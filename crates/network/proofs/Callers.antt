@@ -10,19 +10,19 @@ use Rattle.rules.proofs.Common.{length-take, length-drop}
 use Rattle.rules.proofs.Common.{length-append, Float}
 use native.Mathlib.Omega.{arith}
 use Rattle.rules.specs.Refusals.{Row, ◌when◌, wrong}
-use Rattle.rules.proofs.Refusals.{clear, by_rows, Right, right, none-wrong, one-wrong, by-each}
+use Rattle.rules.proofs.Refusals.{clear, by_rows, Right, right, none_wrong, one_wrong, by_each}
 use Rattle.model.specs.Model.{read_of}
 use Rattle.model.specs.declared.Model.{Model}
 use Rattle.model.specs.declared.Reading.{Reading}
 use Rattle.model.specs.declared.Reading.TheVariants as read
-use Rattle.network.specs.Compute.{Layered, layeredOf, sixLayers, layersInPlace, Outcome, outcomeOf, byReading}
+use Rattle.network.specs.Compute.{Layered, layered_of, six_layers, layers_in_place, Outcome, outcome_of, by_reading}
 use Rattle.network.specs.Compute.{computed}
 use Rattle.network.specs.Private.{Lengths}
-use Rattle.model.proofs.Bounds.{refused-in}
+use Rattle.model.proofs.Bounds.{refused_in}
 use Rattle.network.specs.declared.Computed.{Computed}
 use Rattle.network.specs.declared.Computed.TheVariants.{Done, Refused, Misread}
-use Rattle.network.proofs.Fitting.{few, voice-fits, gains-fit}
-use Rattle.network.proofs.Lengths.{length-denseAt, length-gruAt}
+use Rattle.network.proofs.Fitting.{few, voice_fits, gains_fit}
+use Rattle.network.proofs.Lengths.{length_dense_at, length_gru_at}
 
 -- no length is wrong exactly where the lengths fit
 module _ (gains voice vad noise denoise features : ℕ) where
@@ -30,7 +30,7 @@ module _ (gains voice vad noise denoise features : ℕ) where
   sizes = (gains, 22) ∷ (voice, 1) ∷ (vad, 128) ∷ (noise, 128) ∷ (denoise, 128) ∷ (features, 42) ∷ []
 
   none : Lengths gains voice vad noise denoise features → wrong sizes ≡ false
-  none h = none-wrong sizes (h.gained, (h.voiced, (h.first, (h.second, (h.third, (h.featured, tt))))))
+  none h = none_wrong sizes (h.gained, (h.voiced, (h.first, (h.second, (h.third, (h.featured, tt))))))
 
   fit_of : Right sizes → Lengths gains voice vad noise denoise features
   fit_of r =
@@ -64,18 +64,18 @@ module _ (gains voice vad noise denoise : List Float) (model : List ℕ) (featur
   fits = fit_of (length gains) (length voice) (length vad) (length noise) (length denoise) (length features)
 
   abbrev refuse : ℕ → Outcome
-  refuse n = outcomeOf (Refused n) gains voice vad noise denoise
+  refuse n = outcome_of (Refused n) gains voice vad noise denoise
 
   abbrev past : Outcome
   past =
-      byReading (read_of model)
-      (λ m. record { answer = Done; layers = layersInPlace model m vad noise denoise features })
-      (λ number layer. outcomeOf (Misread number layer) gains voice vad noise denoise)
+      by_reading (read_of model)
+      (λ m. record { answer = Done; layers = layers_in_place model m vad noise denoise features })
+      (λ number layer. outcome_of (Misread number layer) gains voice vad noise denoise)
 
-  pub computed-wrong : (Fit → ⊥)
-      → outcomeOf (Refused 5) gains voice vad noise denoise ≡ computed gains voice vad noise denoise model features
+  pub computed_wrong : (Fit → ⊥)
+      → outcome_of (Refused 5) gains voice vad noise denoise ≡ computed gains voice vad noise denoise model features
   unfolding computed
-  computed-wrong misfit = rw (one-wrong lengths (λ r. misfit (fits r)))
+  computed_wrong misfit = rw (one_wrong lengths (λ r. misfit (fits r)))
 
   passed : Fit → past ≡ computed gains voice vad noise denoise model features
   unfolding computed
@@ -83,21 +83,21 @@ module _ (gains voice vad noise denoise : List Float) (model : List ℕ) (featur
       sym (clear refuse past rows
       (none (length gains) (length voice) (length vad) (length noise) (length denoise) (length features) fit, tt))
 
-  pub computed-misread : Fit → {number layer : ℕ} → read_of model ≡ read.Refused number layer
-      → outcomeOf (Misread number layer) gains voice vad noise denoise
+  pub computed_misread : Fit → {number layer : ℕ} → read_of model ≡ read.Refused number layer
+      → outcome_of (Misread number layer) gains voice vad noise denoise
       ≡ computed gains voice vad noise denoise model features
-  computed-misread fit {number} {layer} e = sym (ap (λ (r : Reading). byReading r good bad) e) ∙ passed fit
+  computed_misread fit {number} {layer} e = sym (ap (λ (r : Reading). by_reading r good bad) e) ∙ passed fit
     where
       good : Model → Outcome
-      good m = record { answer = Done; layers = layersInPlace model m vad noise denoise features }
+      good m = record { answer = Done; layers = layers_in_place model m vad noise denoise features }
 
       bad : ℕ → ℕ → Outcome
-      bad number layer = outcomeOf (Misread number layer) gains voice vad noise denoise
+      bad number layer = outcome_of (Misread number layer) gains voice vad noise denoise
 
-  pub computed-done : Fit → {m : Model} {left : Layered} → read_of model ≡ read.Good m
-      → left ≡ layersInPlace model m vad noise denoise features
+  pub computed_done : Fit → {m : Model} {left : Layered} → read_of model ≡ read.Good m
+      → left ≡ layers_in_place model m vad noise denoise features
       → record { answer = Done; layers = left } ≡ computed gains voice vad noise denoise model features
-  computed-done fit e l = rw (← passed fit, e, l)
+  computed_done fit e l = rw (← passed fit, e, l)
 
   -- every buffer keeps its length
   pub record Kept (f : Layered) : Type 0 where
@@ -107,57 +107,57 @@ module _ (gains voice vad noise denoise : List Float) (model : List ℕ) (featur
     pub second : length f.noise ≡ length noise
     pub third : length f.denoise ≡ length denoise
 
-  as-held : Kept (layeredOf gains voice vad noise denoise)
-  as-held = record { gained = refl; voiced = refl; first = refl; second = refl; third = refl }
+  as_held : Kept (layered_of gains voice vad noise denoise)
+  as_held = record { gained = refl; voiced = refl; first = refl; second = refl; third = refl }
 
   -- a state whose first n places are another list of n
   moved : (n : ℕ) (state new : List Float) → n ≤ length state → length new ≡ length (take n state)
       → length (new ++ drop n state) ≡ length state
   moved n state new h e = simp (length-append, length-drop, e, length-take) (omega arith)
 
-  done-kept : Fit → (m : Model) → read_of model ≡ read.Good m → Kept (layersInPlace model m vad noise denoise features)
-  unfolding layersInPlace sixLayers
-  done-kept fit m good =
+  done_kept : Fit → (m : Model) → read_of model ≡ read.Good m → Kept (layers_in_place model m vad noise denoise features)
+  unfolding layers_in_place six_layers
+  done_kept fit m good =
       let few = few model m good in
-      let voiced = (voice-fits model m good refl refl refl).answer in
-      let gained = (gains-fit model m good refl refl).answer in
-      let f = sixLayers model m (take m.vad_gru.neurons vad) (take m.noise_gru.neurons noise)
+      let voiced = (voice_fits model m good refl refl refl).answer in
+      let gained = (gains_fit model m good refl refl).answer in
+      let f = six_layers model m (take m.vad_gru.neurons vad) (take m.noise_gru.neurons noise)
       (take m.denoise_gru.neurons denoise) features in
       record {
         gained =
-            length-denseAt model m.denoise_output _ gained.within ∙ sym gained.neurons ∙ sym fit.gained;
-        voiced = length-denseAt model m.vad_output _ voiced.within ∙ sym voiced.neurons ∙ sym fit.voiced;
+            length_dense_at model m.denoise_output _ gained.within ∙ sym gained.neurons ∙ sym fit.gained;
+        voiced = length_dense_at model m.vad_output _ voiced.within ∙ sym voiced.neurons ∙ sym fit.voiced;
         first =
             moved m.vad_gru.neurons vad f.vad (omega (arith, few, fit.first))
-            (length-gruAt model m.vad_gru _ _);
+            (length_gru_at model m.vad_gru _ _);
         second =
             moved m.noise_gru.neurons noise f.noise (omega (arith, few, fit.second))
-            (length-gruAt model m.noise_gru _ _);
+            (length_gru_at model m.noise_gru _ _);
         third =
             moved m.denoise_gru.neurons denoise f.denoise (omega (arith, few, fit.third))
-            (length-gruAt model m.denoise_gru _ _);
+            (length_gru_at model m.denoise_gru _ _);
       }
 
   pub kept : Kept (computed gains voice vad noise denoise model features).layers
   unfolding computed
   kept =
-      by_rows refuse past (λ o. Kept o.layers) rows (λ n. as-held)
+      by_rows refuse past (λ o. Kept o.layers) rows (λ n. as_held)
       (λ c. of (fits (right lengths c.0)) (read_of model) refl)
     where
       of : Fit → (r : Reading) → read_of model ≡ r
-          → Kept (byReading r (λ m. record { answer = Done; layers = layersInPlace model m vad noise denoise features })
-          (λ number layer. outcomeOf (Misread number layer) gains voice vad noise denoise)).layers
-      of fit (read.Good m) e = done-kept fit m e
-      of fit (read.Refused number layer) e = as-held
+          → Kept (by_reading r (λ m. record { answer = Done; layers = layers_in_place model m vad noise denoise features })
+          (λ number layer. outcome_of (Misread number layer) gains voice vad noise denoise)).layers
+      of fit (read.Good m) e = done_kept fit m e
+      of fit (read.Refused number layer) e = as_held
 
   -- what it answers: a refusal is 5, and a model's refusal one of its table
   pub answered : Answered (computed gains voice vad noise denoise model features).answer
   unfolding computed
-  answered = by-each refuse past (λ o. Answered o.answer) rows (refl, tt) (of (read_of model) refl)
+  answered = by_each refuse past (λ o. Answered o.answer) rows (refl, tt) (of (read_of model) refl)
     where
       of : (r : Reading) → read_of model ≡ r
           → Answered
-          (byReading r (λ m. record { answer = Done; layers = layersInPlace model m vad noise denoise features })
-          (λ number layer. outcomeOf (Misread number layer) gains voice vad noise denoise)).answer
+          (by_reading r (λ m. record { answer = Done; layers = layers_in_place model m vad noise denoise features })
+          (λ number layer. outcome_of (Misread number layer) gains voice vad noise denoise)).answer
       of (read.Good m) e = tt
-      of (read.Refused number layer) e = let b = refused-in model (sym e) in (b.1, b.2)
+      of (read.Refused number layer) e = let b = refused_in model (sym e) in (b.1, b.2)

@@ -9,28 +9,28 @@ use Rattle.model.proofs.Shapes.{shaped}
 use Rattle.network.specs.Private.{LayerFits, VoiceFits, DenoiseFits}
 
 module _ (bytes : List ℕ) (m : Model) (good : read_of bytes ≡ Good m) where
-  pub voice-fits : {hidden voice features : ℕ} → hidden ≡ m.input_dense.neurons → voice ≡ 1 → features ≡ 42
+  pub voice_fits : {hidden voice features : ℕ} → hidden ≡ m.input_dense.neurons → voice ≡ 1 → features ≡ 42
       → VoiceFits m (length bytes) hidden voice features
-  voice-fits a v f =
+  voice_fits a v f =
       let s = shaped bytes (sym good) in
       record {
         front = record { within = s.layer0; neurons = a; inputs = f ∙ sym s.features };
-        state = record { within = s.layer1; neurons = refl; inputs = a ∙ s.vad-reads };
-        answer = record { within = s.layer5; neurons = v ∙ sym s.voice; inputs = s.voice-reads };
+        state = record { within = s.layer1; neurons = refl; inputs = a ∙ s.vad_reads };
+        answer = record { within = s.layer5; neurons = v ∙ sym s.voice; inputs = s.voice_reads };
       }
 
-  pub noise-fits : {hidden features : ℕ} → hidden ≡ m.input_dense.neurons → features ≡ 42
+  pub noise_fits : {hidden features : ℕ} → hidden ≡ m.input_dense.neurons → features ≡ 42
       → LayerFits Gru m.noise_gru (length bytes) m.noise_gru.neurons
       (hidden + m.vad_gru.neurons + features)
-  noise-fits a f = let s = shaped bytes (sym good) in
-      record { within = s.layer2; neurons = refl; inputs = omega (arith, s.noise-reads) }
+  noise_fits a f = let s = shaped bytes (sym good) in
+      record { within = s.layer2; neurons = refl; inputs = omega (arith, s.noise_reads) }
 
-  pub gains-fit : {gains features : ℕ} → gains ≡ 22 → features ≡ 42 → DenoiseFits m (length bytes) gains features
-  gains-fit g f =
+  pub gains_fit : {gains features : ℕ} → gains ≡ 22 → features ≡ 42 → DenoiseFits m (length bytes) gains features
+  gains_fit g f =
       let s = shaped bytes (sym good) in
       record {
-        state = record { within = s.layer3; neurons = refl; inputs = omega (arith, s.denoise-reads) };
-        answer = record { within = s.layer4; neurons = g ∙ sym s.gains; inputs = s.gains-read };
+        state = record { within = s.layer3; neurons = refl; inputs = omega (arith, s.denoise_reads) };
+        answer = record { within = s.layer4; neurons = g ∙ sym s.gains; inputs = s.gains_read };
       }
 
   -- a layer has at most 127 neurons

@@ -12,14 +12,14 @@ use Rattle.model.specs.Laws.{LiesIn}
 use Rattle.model.specs.declared.Kind.{Kind}
 use Rattle.model.specs.declared.Kind.TheVariants.{Dense, Gru}
 use Rattle.model.specs.declared.Header.{Header}
-use Rattle.model.proofs.Places.{place-within, in_place}
-use Rattle.network.specs.Layers.{denseOf, gruOf, DenseArrays, GruArrays}
-use Rattle.network.specs.Compute.{denseAt, gruAt}
-use Rattle.network.specs.Private.{stateAt, LayerFits}
+use Rattle.model.proofs.Places.{place_within, in_place}
+use Rattle.network.specs.Layers.{dense_of, gru_of, DenseArrays, GruArrays}
+use Rattle.network.specs.Compute.{dense_at, gru_at}
+use Rattle.network.specs.Private.{state_at, LayerFits}
 
 module _ {A : Type 0} (xs : List A) (a e : ℕ) where
-  pub cut-length : (n : ℕ) → e ≡ a + n → e ≤ length xs → length (part a e xs) ≡ n
-  cut-length n h w = simp (length-take, length-drop) (omega arith)
+  pub cut_length : (n : ℕ) → e ≡ a + n → e ≤ length xs → length (part a e xs) ≡ n
+  cut_length n h w = simp (length-take, length-drop) (omega arith)
 
   pub cut : (p : Place) → a ≡ p.at → e ≡ a + p.size → part a e xs ≡ get p xs
   unfolding get
@@ -46,9 +46,9 @@ found {bytes} {k} {h} which within e =
     let there = in_place k h within which in
     record { here = e.0 ∙ ap (λ (p : Place). p.at) there; long = e.1 ∙ ap (λ (p : Place). p.size) there }
 
-pub ends-within : {bytes : ℕ} {k : Kind} {h : Header} {which at size : ℕ} → LiesIn bytes k h → Found k h which at size
+pub ends_within : {bytes : ℕ} {k : Kind} {h : Header} {which at size : ℕ} → LiesIn bytes k h → Found k h which at size
     → at + size ≤ bytes
-ends-within {k = k} {h = h} {which = which} within f = rw (f.here, f.long) (place-within k h within which)
+ends_within {k = k} {h = h} {which = which} within f = rw (f.here, f.long) (place_within k h within which)
 
 module _ (bytes : List ℕ) (h : Header) where
   abbrev i : ℕ
@@ -60,45 +60,45 @@ module _ (bytes : List ℕ) (h : Header) where
   -- an array, as it is cut from the bytes
   size_of : {k : Kind} {which at size : ℕ} → LiesIn (length bytes) k h → Found k h which at size
       → length (part at (at + size) bytes) ≡ (place_of k h which).size
-  size_of {at = at} {size = size} within f = cut-length bytes at (at + size) size refl (ends-within within f) ∙ f.long
+  size_of {at = at} {size = size} within f = cut_length bytes at (at + size) size refl (ends_within within f) ∙ f.long
 
   cut_of : {k : Kind} {which at size : ℕ} → Found k h which at size
       → part at (at + size) bytes ≡ get (place_of k h which) bytes
   cut_of {k} {which} {at} {size} f = cut bytes at (at + size) (place_of k h which) f.here (rw f.long)
 
   module _ {w v b d : ℕ} (fw : Found Dense h 0 w v) (fb : Found Dense h 2 b d) where
-    pub dense-arrays : {output input : ℕ} → LayerFits Dense h (length bytes) output input
+    pub dense_arrays : {output input : ℕ} → LayerFits Dense h (length bytes) output input
         → DenseArrays output (length (part w (w + v) bytes)) (length (part b (b + d) bytes)) input
-    dense-arrays at =
+    dense_arrays at =
         record {
           weighted = size_of at.within fw ∙ rw (at.neurons, at.inputs) (mul_comm i n);
           biased = size_of at.within fb ∙ sym at.neurons;
         }
 
     -- what the layer over the parts leaves
-    pub dense-at : (x : List Float) {r : List Float}
-        → r ≡ denseOf (part w (w + v) bytes) (part b (b + d) bytes) h.activation x → r ≡ denseAt bytes h x
-    unfolding denseAt
-    dense-at x e = e ∙ rw (cut_of fw, cut_of fb)
+    pub dense_at_lem : (x : List Float) {r : List Float}
+        → r ≡ dense_of (part w (w + v) bytes) (part b (b + d) bytes) h.activation x → r ≡ dense_at bytes h x
+    unfolding dense_at
+    dense_at_lem x e = e ∙ rw (cut_of fw, cut_of fb)
 
   module _ {w v q p b d : ℕ} (fw : Found Gru h 0 w v) (fq : Found Gru h 1 q p) (fb : Found Gru h 2 b d) where
-    pub gru-arrays : {output input : ℕ} → LayerFits Gru h (length bytes) output input
+    pub gru_arrays : {output input : ℕ} → LayerFits Gru h (length bytes) output input
         → GruArrays output (length (part w (w + v) bytes)) (length (part q (q + p) bytes))
         (length (part b (b + d) bytes)) input
-    gru-arrays at =
+    gru_arrays at =
         record {
           weighted = size_of at.within fw ∙ rw (at.neurons, at.inputs) (swapped i n);
           recurs = size_of at.within fq ∙ rw at.neurons;
           biased = size_of at.within fb ∙ rw at.neurons;
         }
 
-    pub gru-at : (x states : List Float) (at : ℕ) {r : List Float}
-        → r ≡ gruOf (part w (w + v) bytes) (part q (q + p) bytes) (part b (b + d) bytes) h.activation x
+    pub gru_at_lem : (x states : List Float) (at : ℕ) {r : List Float}
+        → r ≡ gru_of (part w (w + v) bytes) (part q (q + p) bytes) (part b (b + d) bytes) h.activation x
         (part at (at + n) states)
         → take at states ++ (r ++ drop (at + n - at) (drop at states))
-        ≡ put (stateAt at h) states (gruAt bytes h x (get (stateAt at h) states))
-    unfolding gruAt
-    gru-at x states at {r} e =
-        put_back states at (at + n) (stateAt at h) r refl refl
-        ∙ ap (put (stateAt at h) states)
-        (e ∙ rw (cut_of fw, cut_of fq, cut_of fb, cut states at (at + n) (stateAt at h) refl refl))
+        ≡ put (state_at at h) states (gru_at bytes h x (get (state_at at h) states))
+    unfolding gru_at
+    gru_at_lem x states at {r} e =
+        put_back states at (at + n) (state_at at h) r refl refl
+        ∙ ap (put (state_at at h) states)
+        (e ∙ rw (cut_of fw, cut_of fq, cut_of fb, cut states at (at + n) (state_at at h) refl refl))

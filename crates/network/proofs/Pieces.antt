@@ -6,10 +6,10 @@ use native.Mathlib.Omega.{arith}
 use lib.Seq.{paste, paste-suc, take-paste, take-length}
 
 module _ {A : Type 0} where
-  pub put-more : (z : A) (d : List A) (at : ℕ) (s : List A) (i : ℕ) {now : List A} → at + length s ≤ length d
+  pub put_more : (z : A) (d : List A) (at : ℕ) (s : List A) (i : ℕ) {now : List A} → at + length s ≤ length d
       → i < length s → now ≡ paste d at s i
       → set now (at + i) (get_or s i z) ≡ paste d at s (i + 1)
-  put-more z d at s i room h e = rw (e, add-one) (paste-suc d at s i z (omega arith) h)
+  put_more z d at s i room h e = rw (e, add-one) (paste-suc d at s i z (omega arith) h)
 
   pub put_ended : (d : List A) (at : ℕ) (s : List A) (i : ℕ) {now : List A} → at + length s ≤ length d → i ≤ length s
       → length s ≤ i → now ≡ paste d at s i
@@ -28,6 +28,6 @@ module _ {A : Type 0} where
   joined a b c d d₁ d₂ d₃ e e' e'' = let first : take (length a) d₁ ≡ a = rw zero-add at e in rw (e'', e', first)
 
   -- the front of the buffer, where two of the slices are known otherwise
-  pub as-inputs : (a b c buf : List A) (k : ℕ) {a' b' : List A} → a ≡ a' → b ≡ b' → k ≡ length a + length b + length c
+  pub as_inputs : (a b c buf : List A) (k : ℕ) {a' b' : List A} → a ≡ a' → b ≡ b' → k ≡ length a + length b + length c
       → take (length a + length b + length c) buf ≡ a ++ b ++ c → take k buf ≡ a' ++ b' ++ c
-  as-inputs a b c buf k ea eb l e = rw (l, e, ea, eb)
+  as_inputs a b c buf k ea eb l e = rw (l, e, ea, eb)

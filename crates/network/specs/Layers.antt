@@ -3,19 +3,19 @@ use Rattle.rules.specs.Common.{ℕ, ◌+◌, ◌*◌, ◌≤◌, List, map, ◌�
 use Rattle.rules.specs.Loop.{loop}
 use Rattle.rules.specs.F32.{f32, one, at, part, ◌⊕◌, ◌⊖◌, ◌⊗◌}
 use Rattle.numbers.specs.Larger.{rectified}
-use Rattle.numbers.specs.Activations.{tansigApprox, sigmoidApprox}
-use Rattle.matrix.specs.Sums.{of_byte, mulAdd}
+use Rattle.numbers.specs.Activations.{tansig_approx, sigmoid_approx}
+use Rattle.matrix.specs.Sums.{of_byte, mul_add}
 use Rattle.model.specs.declared.Activation.{Activation}
 use Rattle.model.specs.declared.Activation.TheVariants.{Tanh, Sigmoid, Relu}
 
 -- Rust: WEIGHTS_SCALE, 1.0 / 256.0.
-abbrev pub weightsScale : Float
-weightsScale = f32 0x3B800000
+abbrev pub weights_scale : Float
+weights_scale = f32 0x3B800000
 
 -- An activation applied to a number.
 abbrev pub activated : Activation → Float → Float
-activated Tanh x = tansigApprox x
-activated Sigmoid x = sigmoidApprox x
+activated Tanh x = tansig_approx x
+activated Sigmoid x = sigmoid_approx x
 activated Relu x = rectified x
 
 -- Rust: for (x, y) in out.iter_mut().zip(bytes) { *x = *y as f32 }, for equal lengths.
@@ -25,49 +25,49 @@ copied bytes = map of_byte bytes
 -- ---- a dense layer
 
 -- Rust: *out = activation(*out * WEIGHTS_SCALE).
-abbrev pub activateStep : Activation → ℕ → List Float → List Float
-activateStep activation j out = set out j (activated activation (at out j ⊗ weightsScale))
+abbrev pub activate_step : Activation → ℕ → List Float → List Float
+activate_step activation j out = set out j (activated activation (at out j ⊗ weights_scale))
 
 -- A dense layer: bias plus weights times input, scaled and activated.
-unfoldable pub denseOf : List ℕ → List ℕ → Activation → List Float → List Float
-unfolding mulAdd loop
-denseOf weights bias activation input =
+unfoldable pub dense_of : List ℕ → List ℕ → Activation → List Float → List Float
+unfolding mul_add loop
+dense_of weights bias activation input =
     let n = length bias in
-    loop n (activateStep activation) (mulAdd (copied bias) weights n 0 input)
+    loop n (activate_step activation) (mul_add (copied bias) weights n 0 input)
 
 -- ---- a GRU layer
 
 -- The sums of the gate whose columns start at `offset`: its bias, plus weights times input, plus recurrent weights
 -- times state.
-unfoldable pub gateSums : List ℕ → List ℕ → List ℕ → List Float → ℕ → ℕ → List Float → List Float
-unfolding mulAdd
-gateSums weights recurrent bias input n offset state =
+unfoldable pub gate_sums : List ℕ → List ℕ → List ℕ → List Float → ℕ → ℕ → List Float → List Float
+unfolding mul_add
+gate_sums weights recurrent bias input n offset state =
     let start = copied (part offset (offset + n) bias) in
-    mulAdd (mulAdd start weights (3 * n) offset input) recurrent (3 * n) offset state
+    mul_add (mul_add start weights (3 * n) offset input) recurrent (3 * n) offset state
 
 -- Rust: *z = sigmoid_approx(WEIGHTS_SCALE * *z).
-abbrev pub updateStep : ℕ → List Float → List Float
-updateStep j z = set z j (sigmoidApprox (weightsScale ⊗ at z j))
+abbrev pub update_step : ℕ → List Float → List Float
+update_step j z = set z j (sigmoid_approx (weights_scale ⊗ at z j))
 
 -- Rust: *r = s * sigmoid_approx(WEIGHTS_SCALE * *r).
-abbrev pub resetStep : List Float → ℕ → List Float → List Float
-resetStep state j r = set r j (at state j ⊗ sigmoidApprox (weightsScale ⊗ at r j))
+abbrev pub reset_step : List Float → ℕ → List Float → List Float
+reset_step state j r = set r j (at state j ⊗ sigmoid_approx (weights_scale ⊗ at r j))
 
 -- Rust: *s = z * *s + (1.0 - z) * activation(WEIGHTS_SCALE * h).
-abbrev pub blendStep : Activation → List Float → List Float → ℕ → List Float → List Float
-blendStep activation z h j state =
-    set state j (at z j ⊗ at state j ⊕ (one ⊖ at z j) ⊗ activated activation (weightsScale ⊗ at h j))
+abbrev pub blend_step : Activation → List Float → List Float → ℕ → List Float → List Float
+blend_step activation z h j state =
+    set state j (at z j ⊗ at state j ⊕ (one ⊖ at z j) ⊗ activated activation (weights_scale ⊗ at h j))
 
 -- A GRU layer: the next state. Both gates z and r read the old state.
-unfoldable pub gruOf : List ℕ → List ℕ → List ℕ → Activation → List Float → List Float → List Float
-unfolding gateSums loop
-gruOf weights recurrent bias activation input state =
+unfoldable pub gru_of : List ℕ → List ℕ → List ℕ → Activation → List Float → List Float → List Float
+unfolding gate_sums loop
+gru_of weights recurrent bias activation input state =
     let n = length state in
-    let sums = gateSums weights recurrent bias input n in
-    let z = loop n updateStep (sums 0 state) in
-    let r = loop n (resetStep state) (sums n state) in
+    let sums = gate_sums weights recurrent bias input n in
+    let z = loop n update_step (sums 0 state) in
+    let r = loop n (reset_step state) (sums n state) in
     let h = sums (2 * n) r in
-    loop n (blendStep activation z h) state
+    loop n (blend_step activation z h) state
 
 -- ---- the lengths, each count from 1 to 127
 

@@ -9,12 +9,12 @@ use Rattle.model.specs.declared.Header.{Header}
 use Rattle.model.specs.declared.Model.{Model}
 
 -- *r = s * *r.
-abbrev pub timesStep : List Float → ℕ → List Float → List Float
-timesStep state j r = set r j (at state j ⊗ at r j)
+abbrev pub times_step : List Float → ℕ → List Float → List Float
+times_step state j r = set r j (at state j ⊗ at r j)
 
 -- *s = z * *s + (1.0 - z) * new.
-abbrev pub mixStep : List Float → List Float → ℕ → List Float → List Float
-mixStep z new j state = set state j (at z j ⊗ at state j ⊕ (one ⊖ at z j) ⊗ at new j)
+abbrev pub mix_step : List Float → List Float → ℕ → List Float → List Float
+mix_step z new j state = set state j (at z j ⊗ at state j ⊕ (one ⊖ at z j) ⊗ at new j)
 
 -- The lengths for the sums of one gate.
 pub record GateFits (out weights recurrent bias offset input state : ℕ) : Type 0 where
@@ -36,8 +36,8 @@ pub record LayerFits (kind : Kind) (h : Header) (bytes output input : ℕ) : Typ
   pub inputs : input ≡ h.inputs
 
 -- The place of a layer's state among the states, which start at 0, 128 and 256.
-abbrev pub stateAt : ℕ → Header → Place
-stateAt at h = record { at = at; size = h.neurons }
+abbrev pub state_at : ℕ → Header → Place
+state_at at h = record { at = at; size = h.neurons }
 
 -- The three layers that find the voice fit.
 pub record VoiceFits (m : Model) (bytes hidden voice features : ℕ) : Type 0 where

@@ -3,10 +3,10 @@ ghost use Rattle.std.specs.Prelude.{◌≡◌, map, ◌+◌, ◌*◌, ◌≤◌,
 ghost use Rattle.rules.specs.F32.{◌⊗◌};
 ghost use Rattle.rules.specs.Loop.{loop};
 ghost use Rattle.numbers.specs.Tansig.{tansig};
-ghost use Rattle.network.specs.Layers.{weightsScale, copied, activated, updateStep, resetStep, blendStep};
-ghost use Rattle.network.specs.Layers.{gateSums};
-ghost use Rattle.network.specs.Layers.{denseOf, DenseArrays, gruOf, GruArrays};
-ghost use Rattle.network.specs.Private.{timesStep, mixStep, GateFits, ScratchFits};
+ghost use Rattle.network.specs.Layers.{weights_scale, copied, activated, update_step, reset_step, blend_step};
+ghost use Rattle.network.specs.Layers.{gate_sums};
+ghost use Rattle.network.specs.Layers.{dense_of, DenseArrays, gru_of, GruArrays};
+ghost use Rattle.network.specs.Private.{times_step, mix_step, GateFits, ScratchFits};
 
 use model::Activation;
 
@@ -24,7 +24,7 @@ fn copy_weights(out: &mut [f32], bytes: &[u8])
 
 // Multiplies each sum by the scale of the weights.
 fn scale(xs: &mut [f32])
-    ensures { xs.new ≡ map (λ x. weightsScale ⊗ x) xs.old }
+    ensures { xs.new ≡ map (λ x. weights_scale ⊗ x) xs.old }
 {
     for j in 0..xs.len() {
         xs[j] = WEIGHTS_SCALE * xs[j];
@@ -34,7 +34,7 @@ fn scale(xs: &mut [f32])
 // Applies the activation to each sum.
 fn activate(sums: &mut [f32], table: &[f32; 201], activation: Activation)
     requires { table.now ≡ tansig }
-    ensures { sums.new ≡ map (λ x. activated activation (weightsScale ⊗ x)) sums.old }
+    ensures { sums.new ≡ map (λ x. activated activation (weights_scale ⊗ x)) sums.old }
 {
     scale(sums);
     match activation {
@@ -56,7 +56,7 @@ pub(crate) fn dense(
     requires { (table.now ≡ tansig) × DenseArrays (length output.old) (length weights.now) (length bias.now)
         (length input.now) }
     ensures { output.new
-        ≡ denseOf weights.now bias.now activation input.now }
+        ≡ dense_of weights.now bias.now activation input.now }
 {
     let n = output.len();
     copy_weights(output, bias);
@@ -67,7 +67,7 @@ pub(crate) fn dense(
 // Turns sums into gates.
 fn update(gates: &mut [f32], table: &[f32; 201])
     requires { table.now ≡ tansig }
-    ensures { gates.new ≡ loop (length gates.old) updateStep gates.old }
+    ensures { gates.new ≡ loop (length gates.old) update_step gates.old }
 {
     scale(gates);
     numbers::lists::sigmoids(gates, table);
@@ -77,7 +77,7 @@ fn update(gates: &mut [f32], table: &[f32; 201])
 fn times(gates: &mut [f32], state: &[f32])
     requires { length gates.old ≡ length state.now }
     ensures { gates.new
-        ≡ loop (length gates.old) (timesStep state.now) gates.old }
+        ≡ loop (length gates.old) (times_step state.now) gates.old }
 {
     for j in 0..gates.len() {
         gates[j] = state[j] * gates[j];
@@ -88,7 +88,7 @@ fn times(gates: &mut [f32], state: &[f32])
 fn reset(r: &mut [f32], state: &[f32], table: &[f32; 201])
     requires { (length r.old ≡ length state.now) × (table.now ≡ tansig) }
     ensures { r.new
-        ≡ loop (length r.old) (resetStep state.now) r.old }
+        ≡ loop (length r.old) (reset_step state.now) r.old }
 {
     update(r, table);
     times(r, state);
@@ -98,7 +98,7 @@ fn reset(r: &mut [f32], state: &[f32], table: &[f32; 201])
 fn mix(state: &mut [f32], z: &[f32], new: &[f32])
     requires { (length z.now ≡ length state.old) × (length new.now ≡ length state.old) }
     ensures { state.new
-        ≡ loop (length state.old) (mixStep z.now new.now) state.old }
+        ≡ loop (length state.old) (mix_step z.now new.now) state.old }
 {
     for j in 0..state.len() {
         let keep = z[j];
@@ -111,7 +111,7 @@ fn blend(state: &mut [f32], z: &[f32], h: &mut [f32], activation: Activation, ta
     requires { (length z.now ≡ length state.old) × (length h.old ≡ length state.old)
         × (table.now ≡ tansig) }
     ensures { state.new
-        ≡ loop (length state.old) (blendStep activation z.now h.old)
+        ≡ loop (length state.old) (blend_step activation z.now h.old)
         state.old }
 {
     activate(h, table, activation);
@@ -131,7 +131,7 @@ fn gate_sums(
     requires { GateFits (length out.old) (length weights.now) (length recurrent.now) (length bias.now) offset
         (length input.now) (length state.now) }
     ensures { out.new
-        ≡ gateSums weights.now recurrent.now bias.now input.now
+        ≡ gate_sums weights.now recurrent.now bias.now input.now
         (length out.old) offset state.now }
 {
     let n = out.len();
@@ -160,7 +160,7 @@ pub(crate) fn gru(
     requires table_value { (table.now ≡ tansig)
         × ScratchFits (length state.old) (length z.old) (length r.old) (length h.old) }
     ensures { state.new
-        ≡ gruOf weights.now recurrent.now bias.now activation
+        ≡ gru_of weights.now recurrent.now bias.now activation
         input.now state.old }
 {
     let n = state.len();
@@ -187,7 +187,7 @@ pub(crate) fn gru_alone(
         × GruArrays (length state.old) (length weights.now) (length recurrent.now) (length bias.now)
         (length input.now) }
     ensures { state.new
-        ≡ gruOf weights.now recurrent.now bias.now activation
+        ≡ gru_of weights.now recurrent.now bias.now activation
         input.now state.old }
 {
     let n = state.len();

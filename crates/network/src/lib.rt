@@ -2,8 +2,8 @@
 // exactly if a length does not fit or a count is outside 1 to 127.
 ghost use Rattle.std.specs.Prelude.{◌≡◌, length};
 ghost use Rattle.rules.specs.Leaf.{Leaf, ◌leaving◌};
-ghost use Rattle.network.specs.Compute.{outcomeOf, outcomeOn, computed, vadIn, noiseIn, denoiseIn};
-ghost use Rattle.network.specs.Layers.{denseOf, DenseFits, gruOf, GruFits};
+ghost use Rattle.network.specs.Compute.{outcome_of, outcome_on, computed, vad_in, noise_in, denoise_in};
+ghost use Rattle.network.specs.Layers.{dense_of, DenseFits, gru_of, GruFits};
 
 mod layers;
 mod six;
@@ -21,9 +21,9 @@ pub fn dense(
     ensures { Leaf (DenseFits (length output.old) (length weights.now)
         (length bias.now)
         (length input.now))
-        (result leaving (λ x. x.now) output.exit)
-        (0 leaving denseOf weights.now bias.now activation input.now)
-        (5 leaving (λ x. x.now) output.entry) }
+        (result leaving output.new)
+        (0 leaving dense_of weights.now bias.now activation input.now)
+        (5 leaving output.old) }
 {
     let n = output.len();
     let m = input.len();
@@ -62,11 +62,11 @@ pub fn gru(
     ensures { Leaf (GruFits (length state.old) (length weights.now)
         (length recurrent.now)
         (length bias.now) (length input.now))
-        (result leaving (λ x. x.now) state.exit)
-        (0 leaving gruOf weights.now recurrent.now bias.now activation
+        (result leaving state.new)
+        (0 leaving gru_of weights.now recurrent.now bias.now activation
         input.now
         state.old)
-        (5 leaving (λ x. x.now) state.entry) }
+        (5 leaving state.old) }
 {
     let n = state.len();
     let m = input.len();
@@ -114,10 +114,10 @@ pub fn compute_on(
     model: &[u8],
     features: &[f32],
 ) -> Computed
-    ensures { outcomeOn result gains.new voice.new states.new
-        ≡ computed gains.old voice.old (vadIn states.old)
-        (noiseIn states.old)
-        (denoiseIn states.old) model.now features.now }
+    ensures { outcome_on result gains.new voice.new states.new
+        ≡ computed gains.old voice.old (vad_in states.old)
+        (noise_in states.old)
+        (denoise_in states.old) model.now features.now }
 {
     if gains.len() != 22 {
         return Computed::Refused(5);
@@ -150,7 +150,7 @@ pub fn compute(
     model: &[u8],
     features: &[f32],
 ) -> Computed
-    ensures { outcomeOf result gains.new voice.new vad.new noise.new
+    ensures { outcome_of result gains.new voice.new vad.new noise.new
         denoise.new
         ≡ computed gains.old voice.old vad.old noise.old
         denoise.old

@@ -6,8 +6,8 @@ ghost use Rattle.model.specs.declared.Kind.TheVariants.{Dense, Gru};
 ghost use Rattle.model.specs.declared.Reading.TheVariants.{Good};
 ghost use Rattle.model.specs.Model.{read_of};
 ghost use Rattle.rules.specs.Place.{get, put};
-ghost use Rattle.network.specs.Compute.{denseAt, gruAt, layeredOn, layersInPlace, vadIn, noiseIn, denoiseIn};
-ghost use Rattle.network.specs.Private.{stateAt, LayerFits, VoiceFits, DenoiseFits};
+ghost use Rattle.network.specs.Compute.{dense_at, gru_at, layered_on, layers_in_place, vad_in, noise_in, denoise_in};
+ghost use Rattle.network.specs.Private.{state_at, LayerFits, VoiceFits, DenoiseFits};
 
 use crate::layers;
 use model::{Header, Kind, Model};
@@ -41,7 +41,7 @@ pub(crate) fn join(buf: &mut [f32], first: &[f32], second: &[f32], third: &[f32]
 fn dense(output: &mut [f32], table: &[f32; 201], bytes: &[u8], h: Header, input: &[f32])
     requires { (table.now ≡ tansig)
         × LayerFits Dense h (length bytes.now) (length output.old) (length input.now) }
-    ensures { output.new ≡ denseAt bytes.now h input.now }
+    ensures { output.new ≡ dense_at bytes.now h input.now }
 {
     let weights = model::place_in(bytes.len(), Kind::Dense, h, 0);
     let bias = model::place_in(bytes.len(), Kind::Dense, h, 2);
@@ -73,7 +73,7 @@ fn dense_on(
     requires { (table.now ≡ tansig) × (at + n ≤ length states.now)
         × LayerFits Dense h (length bytes.now) (length output.old) n }
     ensures { output.new
-        ≡ denseAt bytes.now h (get (record { at = at; size = n }) states.now) }
+        ≡ dense_at bytes.now h (get (record { at = at; size = n }) states.now) }
 {
     let end = at + n;
     dense(output, table, bytes, h, &states[at..end]);
@@ -83,8 +83,8 @@ fn dense_on(
 fn gru(states: &mut [f32], at: usize, table: &[f32; 201], bytes: &[u8], h: Header, input: &[f32])
     requires { (table.now ≡ tansig) × (at + h.neurons ≤ length states.old)
         × LayerFits Gru h (length bytes.now) h.neurons (length input.now) }
-    ensures { states.new ≡ put (stateAt at h) states.old
-        (gruAt bytes.now h input.now (get (stateAt at h) states.old)) }
+    ensures { states.new ≡ put (state_at at h) states.old
+        (gru_at bytes.now h input.now (get (state_at at h) states.old)) }
 {
     let weights = model::place_in(bytes.len(), Kind::Gru, h, 0);
     let recurrent = model::place_in(bytes.len(), Kind::Gru, h, 1);
@@ -120,12 +120,12 @@ fn voice_of(
 )
     requires { (table.now ≡ tansig) × (length states.old ≡ 384)
         × VoiceFits m (length bytes.now) (length hidden.old) (length voice.old) (length features.now) }
-    ensures { (hidden.new ≡ denseAt bytes.now m.input_dense features.now)
-        × (states.new ≡ put (stateAt 0 m.vad_gru) states.old
-        (gruAt bytes.now m.vad_gru hidden.new
-        (get (stateAt 0 m.vad_gru) states.old)))
-        × (voice.new ≡ denseAt bytes.now m.vad_output
-        (get (stateAt 0 m.vad_gru) states.new)) }
+    ensures { (hidden.new ≡ dense_at bytes.now m.input_dense features.now)
+        × (states.new ≡ put (state_at 0 m.vad_gru) states.old
+        (gru_at bytes.now m.vad_gru hidden.new
+        (get (state_at 0 m.vad_gru) states.old)))
+        × (voice.new ≡ dense_at bytes.now m.vad_output
+        (get (state_at 0 m.vad_gru) states.new)) }
 {
     let input_dense = m.input_dense;
     let vad_gru = m.vad_gru;
@@ -148,10 +148,10 @@ fn noise_of(
     requires { (table.now ≡ tansig) × (length states.old ≡ 384)
         × LayerFits Gru m.noise_gru (length bytes.now) m.noise_gru.neurons
         (length hidden.now + m.vad_gru.neurons + length features.now) }
-    ensures { states.new ≡ put (stateAt 128 m.noise_gru) states.old
-        (gruAt bytes.now m.noise_gru
-        (hidden.now ++ get (stateAt 0 m.vad_gru) states.old ++ features.now)
-        (get (stateAt 128 m.noise_gru) states.old)) }
+    ensures { states.new ≡ put (state_at 128 m.noise_gru) states.old
+        (gru_at bytes.now m.noise_gru
+        (hidden.now ++ get (state_at 0 m.vad_gru) states.old ++ features.now)
+        (get (state_at 128 m.noise_gru) states.old)) }
 {
     let noise_gru = m.noise_gru;
     let n = m.vad_gru.neurons;
@@ -166,11 +166,11 @@ fn denoise_of(states: &mut [f32], table: &[f32; 201], bytes: &[u8], m: Model, fe
     requires { (table.now ≡ tansig) × (length states.old ≡ 384)
         × LayerFits Gru m.denoise_gru (length bytes.now) m.denoise_gru.neurons
         (m.vad_gru.neurons + m.noise_gru.neurons + length features.now) }
-    ensures { states.new ≡ put (stateAt 256 m.denoise_gru) states.old
-        (gruAt bytes.now m.denoise_gru
-        (get (stateAt 0 m.vad_gru) states.old
-        ++ get (stateAt 128 m.noise_gru) states.old ++ features.now)
-        (get (stateAt 256 m.denoise_gru) states.old)) }
+    ensures { states.new ≡ put (state_at 256 m.denoise_gru) states.old
+        (gru_at bytes.now m.denoise_gru
+        (get (state_at 0 m.vad_gru) states.old
+        ++ get (state_at 128 m.noise_gru) states.old ++ features.now)
+        (get (state_at 256 m.denoise_gru) states.old)) }
 {
     let denoise_gru = m.denoise_gru;
     let n = m.vad_gru.neurons;
@@ -192,13 +192,13 @@ fn gains_of(
 )
     requires { (table.now ≡ tansig) × (length states.old ≡ 384)
         × DenoiseFits m (length bytes.now) (length gains.old) (length features.now) }
-    ensures { (states.new ≡ put (stateAt 256 m.denoise_gru) states.old
-        (gruAt bytes.now m.denoise_gru
-        (get (stateAt 0 m.vad_gru) states.old
-        ++ get (stateAt 128 m.noise_gru) states.old ++ features.now)
-        (get (stateAt 256 m.denoise_gru) states.old)))
-        × (gains.new ≡ denseAt bytes.now m.denoise_output
-        (get (stateAt 256 m.denoise_gru) states.new)) }
+    ensures { (states.new ≡ put (state_at 256 m.denoise_gru) states.old
+        (gru_at bytes.now m.denoise_gru
+        (get (state_at 0 m.vad_gru) states.old
+        ++ get (state_at 128 m.noise_gru) states.old ++ features.now)
+        (get (state_at 256 m.denoise_gru) states.old)))
+        × (gains.new ≡ dense_at bytes.now m.denoise_output
+        (get (state_at 256 m.denoise_gru) states.new)) }
 {
     let denoise_output = m.denoise_output;
     let n = m.denoise_gru.neurons;
@@ -219,9 +219,9 @@ fn frame_in(
     requires { (read_of bytes.now ≡ Good m) × (length hidden.old ≡ m.input_dense.neurons)
         × (length gains.old ≡ 22) × (length voice.old ≡ 1) × (length states.old ≡ 384)
         × (length features.now ≡ 42) }
-    ensures { layeredOn gains.new voice.new states.new
-        ≡ layersInPlace bytes.now m (vadIn states.old) (noiseIn states.old)
-        (denoiseIn states.old) features.now }
+    ensures { layered_on gains.new voice.new states.new
+        ≡ layers_in_place bytes.now m (vad_in states.old) (noise_in states.old)
+        (denoise_in states.old) features.now }
 {
     let table = numbers::table::all();
     voice_of(hidden, states, voice, &table, bytes, m, features);
@@ -241,9 +241,9 @@ pub(crate) fn frame(
     requires { (read_of bytes.now ≡ Good m)
         × (length gains.old ≡ 22) × (length voice.old ≡ 1) × (length states.old ≡ 384)
         × (length features.now ≡ 42) }
-    ensures { layeredOn gains.new voice.new states.new
-        ≡ layersInPlace bytes.now m (vadIn states.old) (noiseIn states.old)
-        (denoiseIn states.old) features.now }
+    ensures { layered_on gains.new voice.new states.new
+        ≡ layers_in_place bytes.now m (vad_in states.old) (noise_in states.old)
+        (denoise_in states.old) features.now }
 {
     let n = m.input_dense.neurons;
     let mut hidden = [0.0f32; 128];

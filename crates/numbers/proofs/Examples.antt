@@ -8,7 +8,7 @@ use lib.Ieee.{is_nan, lt, to_bits, of_bits, add, sub, mul}
 use Rattle.rules.specs.F32.{f32}
 use Rattle.rules.specs.Loop.{loop}
 use Rattle.numbers.specs.declared.filter.Memory.{Memory}
-use Rattle.numbers.specs.Filter.{highPass, filterStep, filtered, memoryAfter, outputs}
+use Rattle.numbers.specs.Filter.{high_pass, filter_step, filtered, memory_after, outputs}
 use Rattle.numbers.specs.Larger.{larger, smaller, clamped}
 use Rattle.numbers.specs.Narrowed.{narrowed}
 
@@ -41,11 +41,11 @@ start = record { m0 = f32 0; m1 = f32 0 }
 abbrev samples : List Float
 samples = f32 0x4040_0000 ∷ f32 0x40A0_0000 ∷ f32 0x40E0_0000 ∷ []
 
-three-samples :
-    (outputs highPass start samples ≡ (f32 0x4040_0000 ∷ f32 0x409F_9D74 ∷ f32 0x40DE_F95B ∷ []))
-    × (memoryAfter highPass start samples ≡ record { m0 = f32 0xBD76_188C; m1 = f32 0x3D75_7C71 })
-unfolding filtered filterStep loop narrowed of_bits add sub mul
-three-samples = (refl, refl)
+three_samples :
+    (outputs high_pass start samples ≡ (f32 0x4040_0000 ∷ f32 0x409F_9D74 ∷ f32 0x40DE_F95B ∷ []))
+    × (memory_after high_pass start samples ≡ record { m0 = f32 0xBD76_188C; m1 = f32 0x3D75_7C71 })
+unfolding filtered filter_step loop narrowed of_bits add sub mul
+three_samples = (refl, refl)
 
 -- of 0 and -0 the larger is 0, and the other where one is a NaN; a NaN is not brought between two numbers
 picks :

@@ -24,16 +24,16 @@ module _ (p q k : ℕ) (P : 0 < p) (lead : 0 < k → 2 ^ (p - 1) ≤ q) (a t : �
         )
   ]
 
-  pub next-above : q * 2 ^ k < a * 2 ^ t → q * 2 ^ k + 2 ^ k ≤ a * 2 ^ t
-  next-above h = elim grid [
+  pub next_above : q * 2 ^ k < a * 2 ^ t → q * 2 ^ k + 2 ^ k ≤ a * 2 ^ t
+  next_above h = elim grid [
     | inl c ↦ le_trans (le_of_eq (sym (suc-mul q (2 ^ k))))
         (le_trans (mul-le-mul_right (2 ^ k) (lt_of_mul-lt-mul_right (2 ^ k) (lt_of_lt_of_le h (le_of_eq c.1))))
         (le_of_eq (sym c.1)))
     | inr l ↦ absurd (not-le_of_lt (lt_of_lt_of_le l.1 (mul-le-mul_right (2 ^ k) (lead l.0))) (le_of_lt h))
   ]
 
-  pub next-below : a * 2 ^ t < q * 2 ^ k → (a * 2 ^ t + 2 ^ k ≤ q * 2 ^ k) ⊎ ((0 < k) × (q ≡ 2 ^ (p - 1)))
-  next-below h = elim grid [
+  pub next_below : a * 2 ^ t < q * 2 ^ k → (a * 2 ^ t + 2 ^ k ≤ q * 2 ^ k) ⊎ ((0 < k) × (q ≡ 2 ^ (p - 1)))
+  next_below h = elim grid [
     | inl c ↦
         inl (le_trans (le_of_eq (ap (λ (y : ℕ). y + 2 ^ k) c.1 ∙ sym (suc-mul c.0 (2 ^ k))))
         (mul-le-mul_right (2 ^ k) (lt_of_mul-lt-mul_right (2 ^ k) (lt_of_le_of_lt (le_of_eq (sym c.1)) h))))

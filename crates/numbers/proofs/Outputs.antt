@@ -8,13 +8,13 @@ use Rattle.rules.specs.F32.{at}
 use Rattle.rules.specs.Leaf.{Leaf, ◌leaving◌}
 use Rattle.rules.specs.Loop.{loop}
 use Rattle.rules.proofs.Refusals.{fitting}
-use Rattle.rules.proofs.Lists.{front-more}
+use Rattle.rules.proofs.Lists.{front_more}
 use Rattle.numbers.specs.declared.filter.Biquad.{Biquad}
 use Rattle.numbers.specs.declared.filter.Memory.{Memory}
 use Rattle.numbers.specs.declared.filter.Filtered.{Filtered}
 use Rattle.numbers.specs.Narrowed.{narrowed}
-use Rattle.numbers.specs.Filter.{filterStep, filtered, memoryAfter, outputs, answer}
-use Rattle.numbers.proofs.Widened.{narrowed-fits, narrowed-held}
+use Rattle.numbers.specs.Filter.{filter_step, filtered, memory_after, outputs, answer}
+use Rattle.numbers.proofs.Widened.{narrowed_fits, narrowed_held}
 
 -- each number of a memory is an `f32`, at all times
 pub record Held (mem : Memory) : Type 0 where
@@ -24,10 +24,10 @@ pub record Held (mem : Memory) : Type 0 where
 module _ (k : Biquad) (mem : Memory) (input : List Float) where
   -- the memories and the outputs of i samples
   abbrev after : ℕ → Memory × List Float
-  after i = loop i (filterStep k input) (mem, [])
+  after i = loop i (filter_step k input) (mem, [])
 
   as_many : (n : ℕ) → length (after n).1 ≡ n
-  unfolding loop filterStep
+  unfolding loop filter_step
   as_many zero = refl
   as_many (suc n) = simp (length-append, as_many n) (omega arith)
 
@@ -36,63 +36,63 @@ module _ (k : Biquad) (mem : Memory) (input : List Float) where
     pub memory : kept ≡ (after i).0
     pub front : now ≡ (after i).1 ++ drop i d
 
-  pub filter-begin : (d : List Float) → Filtering d 0 mem d
+  pub filter_begin : (d : List Float) → Filtering d 0 mem d
   unfolding loop
-  filter-begin d = record { memory = refl; front = refl }
+  filter_begin d = record { memory = refl; front = refl }
 
   -- a turn is the filter over one sample
   pub filter_more : (d : List Float) (i : ℕ) {kept next : Memory} {now : List Float} {y : Float}
       → Filtering d i kept now → i < length d
-      → next ≡ memoryAfter k kept (at input i ∷ []) → y ∷ [] ≡ outputs k kept (at input i ∷ [])
+      → next ≡ memory_after k kept (at input i ∷ []) → y ∷ [] ≡ outputs k kept (at input i ∷ [])
       → Filtering d (i + 1) next (set now i y)
-  unfolding loop filterStep filtered
+  unfolding loop filter_step filtered
   filter_more d i {now = now} {y = y} h room m o =
-      let stored = front-more (after i).1 d now i y (as_many i) h.front room in
+      let stored = front_more (after i).1 d now i y (as_many i) h.front room in
       let new = o ∙ ap (λ (n : Memory). outputs k n (at input i ∷ [])) h.memory in
       record {
-        memory = rw (add-one i) (m ∙ ap (λ (n : Memory). memoryAfter k n (at input i ∷ [])) h.memory);
+        memory = rw (add-one i) (m ∙ ap (λ (n : Memory). memory_after k n (at input i ∷ [])) h.memory);
         front =
             rw (add-one i) (rw (add-one i) at
             (stored ∙ ap (λ (t : List Float). ((after i).1 ++ t) ++ drop (i + 1) d) new));
       }
 
-  filter-held : Held mem → (n : ℕ) → Held (after n).0
-  unfolding loop filterStep
-  filter-held h zero = h
-  filter-held h (suc n) =
+  filter_held : Held mem → (n : ℕ) → Held (after n).0
+  unfolding loop filter_step
+  filter_held h zero = h
+  filter_held h (suc n) =
       let x = at input n in
       let y = add binary64 x (after n).0.m0 in
       record {
         first =
-            narrowed-fits (add binary64 (after n).0.m1
+            narrowed_fits (add binary64 (after n).0.m1
             (sub binary64 (mul binary64 k.b0 x) (mul binary64 k.a0 y)));
-        second = narrowed-fits (sub binary64 (mul binary64 k.b1 x) (mul binary64 k.a1 y));
+        second = narrowed_fits (sub binary64 (mul binary64 k.b1 x) (mul binary64 k.a1 y));
       }
 
   -- so what is kept of it as an `f64` is narrowed to itself
-  pub filter-ended : (d : List Float) (i : ℕ) {kept left : Memory} {now : List Float} → Filtering d i kept now
+  pub filter_ended : (d : List Float) (i : ℕ) {kept left : Memory} {now : List Float} → Filtering d i kept now
       → i ≡ length input → length d ≤ i
       → Held mem → left.m0 ≡ narrowed kept.m0 → left.m1 ≡ narrowed kept.m1
-      → (left ≡ memoryAfter k mem input) × (now ≡ outputs k mem input)
+      → (left ≡ memory_after k mem input) × (now ≡ outputs k mem input)
   unfolding filtered
-  filter-ended d i {left = left} h e all start l₀ l₁ =
+  filter_ended d i {left = left} h e all start l₀ l₁ =
       let last = (after (length input)).0 in
       let same = h.memory ∙ ap (λ (n : ℕ). (after n).0) e in
-      let held = filter-held start (length input) in
+      let held = filter_held start (length input) in
       let a : left.m0 ≡ last.m0 =
-      l₀ ∙ ap (λ (m : Memory). narrowed m.m0) same ∙ narrowed-held last.m0 held.first in
+      l₀ ∙ ap (λ (m : Memory). narrowed m.m0) same ∙ narrowed_held last.m0 held.first in
       let b : left.m1 ≡ last.m1 =
-      l₁ ∙ ap (λ (m : Memory). narrowed m.m1) same ∙ narrowed-held last.m1 held.second in
+      l₁ ∙ ap (λ (m : Memory). narrowed m.m1) same ∙ narrowed_held last.m1 held.second in
       ((λ i. record { m0 = a i; m1 = b i }), h.front ∙ rw (drop_of_length-le d all, append-nil (after i).1, e))
 
-  pub length-outputs : length (outputs k mem input) ≡ length input
+  pub length_outputs : length (outputs k mem input) ≡ length input
   unfolding filtered
-  length-outputs = as_many (length input)
+  length_outputs = as_many (length input)
 
   -- equal lengths: 0 with the memory to go on with, and the outputs
   pub filters : {output got : List Float} {r : Filtered}
       → Leaf (length output ≡ length input) (r leaving got)
-      (answer 0 (memoryAfter k mem input) leaving outputs k mem input) (answer 5 mem leaving output)
-      → length output ≡ length input → (r ≡ answer 0 (memoryAfter k mem input)) × (got ≡ outputs k mem input)
+      (answer 0 (memory_after k mem input) leaving outputs k mem input) (answer 5 mem leaving output)
+      → length output ≡ length input → (r ≡ answer 0 (memory_after k mem input)) × (got ≡ outputs k mem input)
   filters served same = let e = fitting served same in
       (ap (λ (p : Filtered × List Float). p.0) e, ap (λ (p : Filtered × List Float). p.1) e)

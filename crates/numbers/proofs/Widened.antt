@@ -1,5 +1,5 @@
--- An `f64` rounded to an `f32` where it stands: `shortened-bits` has its pattern. What an `f32` holds is narrowed to
--- itself (`narrowed-held`). Assumes nothing.
+-- An `f64` rounded to an `f32` where it stands: `shortened_bits` has its pattern. What an `f32` holds is narrowed to
+-- itself (`narrowed_held`). Assumes nothing.
 use Rattle.rules.proofs.Common.{ℕ, zero, suc, ◌+◌, ◌-◌, ◌*◌, ◌/◌, ◌%◌, ◌^◌, ◌≤◌, ◌<◌, Bool, true, false, ◌≡◌, refl, sym}
 use Rattle.rules.proofs.Common.{ap, subst, ◌∙◌, T, Float}
 use Rattle.rules.proofs.Common.{binary32, binary64, nan, inf, fin, up, down}
@@ -11,10 +11,10 @@ use lib.Ieee.Exact.{HasValue, round_exact}
 use lib.Ieee.Nearest.{closest, closest_mono}
 use Rattle.numbers.specs.Narrowed.{narrowed}
 use Rattle.numbers.specs.Private.{with_sign}
-use Rattle.numbers.proofs.Closest.{closest-add}
-use Rattle.numbers.proofs.Conversion.{bits-lt, narrowed_at, finite-narrows}
-use Rattle.numbers.proofs.Held.{fits-says, place, held-units}
-use Rattle.numbers.proofs.Pattern.{below_or_not, bits_of, pattern-value}
+use Rattle.numbers.proofs.Closest.{closest_add}
+use Rattle.numbers.proofs.Conversion.{bits_lt, narrowed_at, finite_narrows}
+use Rattle.numbers.proofs.Held.{fits_says, place, held_units}
+use Rattle.numbers.proofs.Pattern.{below_or_not, bits_of, pattern_value}
 
 -- two that a format holds are one where sign and size are
 held_same : (f : Format) (v w : Float) (s : Bool) (a : ℕ) → T (fits f v) → T (fits f w) → HasValue v s a (2 ^ low f)
@@ -44,17 +44,17 @@ module _ (s : Bool) (q k : ℕ) (lead : 2 ^ 23 ≤ q) (q-lt : q < 2 ^ 24) (k-le 
       ∙ ap (λ (x : ℕ). q * x) (sym (pow-add 2 k 925) ∙ ap (λ (x : ℕ). 2 ^ x) same ∙ pow-add 2 29 (k + 896))
       ∙ sym (mul_assoc q (2 ^ 29) (2 ^ (k + 896)))
 
-  short-value : HasValue short s (q * 2 ^ 29 * 2 ^ (k + 896)) (2 ^ 1074)
-  short-value =
+  short_value : HasValue short s (q * 2 ^ 29 * 2 ^ (k + 896)) (2 ^ 1074)
+  short_value =
       subst (λ (a : ℕ). HasValue short s a (2 ^ 1074)) size_is
       (finer short s (q * 2 ^ k) (2 ^ 149) (2 ^ 925)
-      (pattern-value binary32 s q k (omega arith, λ K. lead)
+      (pattern_value binary32 s q k (omega arith, λ K. lead)
       (lt_of_lt_of_le (shl_lt 24 k q-lt) (pow_mono {j = 277} (omega arith)))))
 
-  long-value : HasValue long s (q * 2 ^ 29 * 2 ^ (k + 896)) (2 ^ 1074)
-  long-value =
+  long_value : HasValue long s (q * 2 ^ 29 * 2 ^ (k + 896)) (2 ^ 1074)
+  long_value =
       let digits : q * 2 ^ 29 < 2 ^ 53 = omega arith in
-      pattern-value binary64 s (q * 2 ^ 29) (k + 896) (omega arith, λ K. omega arith)
+      pattern_value binary64 s (q * 2 ^ 29) (k + 896) (omega arith, λ K. omega arith)
       (lt_of_lt_of_le (shl_lt 53 (k + 896) digits) (pow_mono {j = 2098} (omega arith)))
 
   widens : short ≡ long
@@ -62,7 +62,7 @@ module _ (s : Bool) (q k : ℕ) (lead : 2 ^ 23 ≤ q) (q-lt : q < 2 ^ 24) (k-le 
       held_same binary64 short long s (q * 2 ^ 29 * 2 ^ (k + 896))
       (fits_widens short (of_bits-fits binary32 (with_sign binary32 s (k * 2 ^ 23 + q))))
       (of_bits-fits binary64 (with_sign binary64 s ((k + 896) * 2 ^ 52 + q * 2 ^ 29)))
-      short-value long-value
+      short_value long_value
 
 widened : (s : Bool) (c : ℕ) → 2 ^ 23 ≤ c → c < 255 * 2 ^ 23
     → of_bits binary32 (with_sign binary32 s c) ≡ of_bits binary64 (with_sign binary64 s (c * 2 ^ 29 + 896 * 2 ^ 52))
@@ -83,7 +83,7 @@ module _ (a : ℕ) (from : 897 * 2 ^ 52 ≤ a) (to : a < 1150 * 2 ^ 52) where
   moved : closest a (2 ^ 29) ≡ 896 * 2 ^ 23 + closest v (2 ^ 29)
   moved =
       let whole : 896 * 2 ^ 23 * 2 ^ 29 + v ≡ a = omega arith in
-      ap (λ (x : ℕ). closest x (2 ^ 29)) (sym whole) ∙ closest-add (896 * 2 ^ 23) v (2 ^ 29) (pow_pos 29) refl
+      ap (λ (x : ℕ). closest x (2 ^ 29)) (sym whole) ∙ closest_add (896 * 2 ^ 23) v (2 ^ 29) (pow_pos 29) refl
 
   least : 2 ^ 23 ≤ closest v (2 ^ 29)
   least = closest_mono (2 ^ 52) (2 ^ 29) v (2 ^ 29) (pow_pos 29) (pow_pos 29) (omega arith)
@@ -94,15 +94,15 @@ module _ (a : ℕ) (from : 897 * 2 ^ 52 ≤ a) (to : a < 1150 * 2 ^ 52) where
   pub few : closest a (2 ^ 29) ≤ 1150 * 2 ^ 23
   few = rw moved (omega (arith, most))
 
-  short-pattern : (s : Bool)
+  short_pattern : (s : Bool)
       → of_bits binary64 (with_sign binary64 s (closest a (2 ^ 29) * 2 ^ 29))
       ≡ narrowed (of_bits binary64 (with_sign binary64 s a))
-  short-pattern s =
+  short_pattern s =
       let c = closest v (2 ^ 29) in
       let up_to : min c (255 * 2 ^ 23) ≡ c = omega (arith, most) in
       let there : c * 2 ^ 29 + 896 * 2 ^ 52 ≡ closest a (2 ^ 29) * 2 ^ 29 = rw moved (omega arith) in
       sym
-      (finite-narrows s a from (omega arith)
+      (finite_narrows s a from (omega arith)
       ∙ ap (λ (x : ℕ). of_bits binary32 (with_sign binary32 s x)) up_to
       ∙ widened s c least (omega (arith, most))
       ∙ ap (λ (x : ℕ). of_bits binary64 (with_sign binary64 s x)) there)
@@ -122,50 +122,50 @@ module _ (x : Float) (held : T (fits binary64 x)) (from : 897 * 2 ^ 52 ≤ to_bi
       let c = closest (b % 2 ^ 63) (2 ^ 29) in
       let split : 2 ^ 34 * 2 ^ 29 + b % 2 ^ 63 ≡ b = e in
       ap (λ (y : ℕ). closest y (2 ^ 29) * 2 ^ 29) (sym split)
-      ∙ rw (closest-add (2 ^ 34) (b % 2 ^ 63) (2 ^ 29) (pow_pos 29) refl) (omega arith)
+      ∙ rw (closest_add (2 ^ 34) (b % 2 ^ 63) (2 ^ 29) (pow_pos 29) refl) (omega arith)
 
   at_sign : (s : Bool) → with_sign binary64 s (b % 2 ^ 63) ≡ b
       → of_bits binary64 (closest b (2 ^ 29) * 2 ^ 29) ≡ narrowed x
   at_sign s e =
-      ap (of_bits binary64) (signed s e) ∙ short-pattern (b % 2 ^ 63) from to s
+      ap (of_bits binary64) (signed s e) ∙ short_pattern (b % 2 ^ 63) from to s
       ∙ ap narrowed (ap (of_bits binary64) e ∙ of_bits-to_bits binary64 x held)
 
   -- no NaN's pattern, since the sign's bit is left where it was
-  pub shortened-real : closest b (2 ^ 29) * 2 ^ 29 % 2 ^ 63 ≤ 2047 * 2 ^ 52
-  shortened-real = elim (below_or_not b (2 ^ 63)) [
+  pub shortened_real : closest b (2 ^ 29) * 2 ^ 29 % 2 ^ 63 ≤ 2047 * 2 ^ 52
+  shortened_real = elim (below_or_not b (2 ^ 63)) [
     | inl l ↦ rw (signed false (omega arith)) (omega (arith, few (b % 2 ^ 63) from to))
-    | inr g ↦ rw (signed true (omega (arith, bits-lt x held))) (omega (arith, few (b % 2 ^ 63) from to))
+    | inr g ↦ rw (signed true (omega (arith, bits_lt x held))) (omega (arith, few (b % 2 ^ 63) from to))
   ]
 
-  pub shortened-bits : of_bits binary64 (closest b (2 ^ 29) * 2 ^ 29) ≡ narrowed x
-  shortened-bits = elim (below_or_not b (2 ^ 63)) [
+  pub shortened_bits : of_bits binary64 (closest b (2 ^ 29) * 2 ^ 29) ≡ narrowed x
+  shortened_bits = elim (below_or_not b (2 ^ 63)) [
     | inl l ↦ at_sign false (omega arith)
-    | inr g ↦ at_sign true (omega (arith, bits-lt x held))
+    | inr g ↦ at_sign true (omega (arith, bits_lt x held))
   ]
 
 -- ---- what an `f32` holds
-pub narrowed-fits : (x : Float) → T (fits binary32 (narrowed x))
+pub narrowed_fits : (x : Float) → T (fits binary32 (narrowed x))
 unfolding narrowed
-narrowed-fits nan = nan-fits binary32
-narrowed-fits (inf s) = inf-fits binary32 s
-narrowed-fits (fin s m e) = round-fits binary32 s (m * up e) (down e)
+narrowed_fits nan = nan-fits binary32
+narrowed_fits (inf s) = inf-fits binary32 s
+narrowed_fits (fin s m e) = round-fits binary32 s (m * up e) (down e)
 
 stays : (x : Float) (s : Bool) (z : ℕ) → T (fits binary32 x) → HasValue x s z (2 ^ 149) → z < 2 ^ 277 → narrowed x ≡ x
 stays x s z h v l =
-    let u = held-units binary32 x s z h v in
+    let u = held_units binary32 x s z h v in
     narrowed_at x s z (2 ^ 149) (pow_pos 149) v
     ∙ held_same binary32 (round binary32 s z (2 ^ 149)) x s z (round-fits binary32 s z (2 ^ 149)) h
     (round_exact binary32 s z (2 ^ 149) u.0 u.1 (pow_pos 149) u.2 (subst (λ (y : ℕ). y < 2 ^ 277) u.3 l)
     (ap (λ (y : ℕ). y * 2 ^ 149) u.3))
     v
 
-pub narrowed-held : (x : Float) → T (fits binary32 x) → narrowed x ≡ x
+pub narrowed_held : (x : Float) → T (fits binary32 x) → narrowed x ≡ x
 unfolding narrowed
-narrowed-held nan h = refl
-narrowed-held (inf s) h = refl
-narrowed-held (fin s zero e) h = stays (fin s zero e) s 0 h (refl, simp zero-mul) (pow_pos 277)
-narrowed-held (fin s (suc m) e) h =
-    let says = fits-says binary32 s m e h in
+narrowed_held nan h = refl
+narrowed_held (inf s) h = refl
+narrowed_held (fin s zero e) h = stays (fin s zero e) s 0 h (refl, simp zero-mul) (pow_pos 277)
+narrowed_held (fin s (suc m) e) h =
+    let says = fits_says binary32 s m e h in
     let at = place 149 e says.1 in
     let value : suc m * up e * 2 ^ 149 ≡ suc m * 2 ^ at.0 * down e = mul_assoc (suc m) (up e) (2 ^ 149)
     ∙ ap (λ (x : ℕ). suc m * x) at.1 ∙ sym (mul_assoc (suc m) (2 ^ at.0) (down e)) in

@@ -37,20 +37,20 @@ abbrev pub near : List Float → Float → Float
 near table x = curve (at table (place x)) (x ⊖ f32 0x3D23D70A ⊗ of_int binary32 (pos (place x)))
 
 -- tansig_approx with any table of 201 numbers. A NaN gives 0.0 (request 09); in the Rust it gives 1.0.
-unfoldable pub tansigIn : List Float → Float → Float
-tansigIn table x =
+unfoldable pub tansig_in : List Float → Float → Float
+tansig_in table x =
     cond (is_nan x) (f32 0) (cond (lt x eight)
     (cond (lt (neg eight) x) (sign_of x ⊗ near table (magnitude x)) (neg one)) one)
 
 -- sigmoid_approx with any table of 201 numbers.
-unfoldable pub sigmoidIn : List Float → Float → Float
-unfolding tansigIn
-sigmoidIn table x = half ⊕ half ⊗ tansigIn table (half ⊗ x)
+unfoldable pub sigmoid_in : List Float → Float → Float
+unfolding tansig_in
+sigmoid_in table x = half ⊕ half ⊗ tansig_in table (half ⊗ x)
 
 -- tansig_approx, with TANSIG_TABLE.
-abbrev pub tansigApprox : Float → Float
-tansigApprox x = tansigIn tansig x
+abbrev pub tansig_approx : Float → Float
+tansig_approx x = tansig_in tansig x
 
 -- sigmoid_approx, with TANSIG_TABLE.
-abbrev pub sigmoidApprox : Float → Float
-sigmoidApprox x = sigmoidIn tansig x
+abbrev pub sigmoid_approx : Float → Float
+sigmoid_approx x = sigmoid_in tansig x

@@ -9,16 +9,16 @@ use Rattle.numbers.specs.declared.filter.Filtered.{Filtered}
 use Rattle.numbers.specs.Narrowed.{narrowed}
 
 -- The filter's memory, mem: [f32; 2], from a list.
-abbrev pub memoryOf : List Float → Memory
-memoryOf mem = record { m0 = at mem 0; m1 = at mem 1 }
+abbrev pub memory_of : List Float → Memory
+memory_of mem = record { m0 = at mem 0; m1 = at mem 1 }
 
 -- The memory as a list.
-abbrev pub memoryList : Memory → List Float
-memoryList mem = mem.m0 ∷ mem.m1 ∷ []
+abbrev pub memory_list : Memory → List Float
+memory_list mem = mem.m0 ∷ mem.m1 ∷ []
 
 -- Rust: BIQUAD_HP, with a = [-1.99599, 0.99600] and b = [-2.0, 1.0].
-abbrev pub highPass : Biquad
-highPass = record { a0 = f32 0xBFFF7C9A; a1 = f32 0x3F7EF9DB; b0 = f32 0xC0000000; b1 = f32 0x3F800000 }
+abbrev pub high_pass : Biquad
+high_pass = record { a0 = f32 0xBFFF7C9A; a1 = f32 0x3F7EF9DB; b0 = f32 0xC0000000; b1 = f32 0x3F800000 }
 
 -- for (&x, y) in input.iter().zip(output) {
 --     let x64 = x as f64;
@@ -28,9 +28,9 @@ highPass = record { a0 = f32 0xBFFF7C9A; a1 = f32 0x3F7EF9DB; b0 = f32 0xC000000
 --     *y = y64 as f32;
 -- }
 -- The loop carries mem and what it has stored of the output.
-unfoldable pub filterStep : Biquad → List Float → ℕ → Memory × List Float → Memory × List Float
+unfoldable pub filter_step : Biquad → List Float → ℕ → Memory × List Float → Memory × List Float
 unfolding narrowed
-filterStep k input i s =
+filter_step k input i s =
     let mem = s.0 in
     let x64 = at input i in
     let y64 = x64 +₆₄ mem.m0 in
@@ -40,12 +40,12 @@ filterStep k input i s =
 
 -- The memory and the output after all of the input.
 unfoldable pub filtered : Biquad → Memory → List Float → Memory × List Float
-unfolding loop filterStep
-filtered k mem input = loop (length input) (filterStep k input) (mem, [])
+unfolding loop filter_step
+filtered k mem input = loop (length input) (filter_step k input) (mem, [])
 
 -- The memory afterwards.
-abbrev pub memoryAfter : Biquad → Memory → List Float → Memory
-memoryAfter k mem input = (filtered k mem input).0
+abbrev pub memory_after : Biquad → Memory → List Float → Memory
+memory_after k mem input = (filtered k mem input).0
 
 -- The output.
 abbrev pub outputs : Biquad → Memory → List Float → List Float

@@ -19,11 +19,11 @@ pub record IsMaximum : Type 0 where
   -- If one is a NaN, the other.
   pub of_nan : (x : Float) → (larger nan x ≡ x) × (larger x nan ≡ x)
   -- If the left one is lower, the right one.
-  pub of-less : (x y : Float) → lt x y ≡ true → larger x y ≡ y
+  pub of_less : (x y : Float) → lt x y ≡ true → larger x y ≡ y
   -- If the right one is lower, the left one.
-  pub of-more : (x y : Float) → lt y x ≡ true → larger x y ≡ x
+  pub of_more : (x y : Float) → lt y x ≡ true → larger x y ≡ x
   -- Of two zeros with different signs, +0.
-  pub of-zeros : (e d : ℤ)
+  pub of_zeros : (e d : ℤ)
       → (larger (fin true zero e) (fin false zero d) ≡ fin false zero d)
       × (larger (fin false zero e) (fin true zero d) ≡ fin false zero e)
   -- In either order the results compare equal.
@@ -34,11 +34,11 @@ pub record IsMinimum : Type 0 where
   -- If one is a NaN, the other.
   pub of_nan : (x : Float) → (smaller nan x ≡ x) × (smaller x nan ≡ x)
   -- If the left one is lower, the left one.
-  pub of-less : (x y : Float) → lt x y ≡ true → smaller x y ≡ x
+  pub of_less : (x y : Float) → lt x y ≡ true → smaller x y ≡ x
   -- If the right one is lower, the right one.
-  pub of-more : (x y : Float) → lt y x ≡ true → smaller x y ≡ y
+  pub of_more : (x y : Float) → lt y x ≡ true → smaller x y ≡ y
   -- If they compare equal, the left one.
-  pub of-equal : (x y : Float) → eq x y ≡ true → smaller x y ≡ x
+  pub of_equal : (x y : Float) → eq x y ≡ true → smaller x y ≡ x
 
 -- ---- rounding
 
@@ -115,9 +115,9 @@ pub record NearestRoot (f : Format) (x y : Float) : Type 0 where
   -- y is a value of the format.
   pub held : T (fits f y)
   -- n and x are the same number.
-  pub x-is : HasValue x false n (2 ^ low f * 2 ^ low f)
+  pub x_is : HasValue x false n (2 ^ low f * 2 ^ low f)
   -- Y and y are the same number.
-  pub y-is : HasValue y false Y (2 ^ low f)
+  pub y_is : HasValue y false Y (2 ^ low f)
   -- The digits are as many as the format has.
   pub digits : (Y ≡ q * 2 ^ k) × (2 ^ (prec f - 1) ≤ q) × (q ≤ 2 ^ prec f)
   -- No value of the format is nearer to the root.

@@ -22,28 +22,28 @@ abbrev pub overshoot : Float → Float → Float
 overshoot t near = cond (lt t near) one (f32 0)
 
 -- The magnitude of x if `tansig_approx` looks it up, and otherwise 0.
-abbrev pub insideOf : Float → Float
-insideOf x = cond (lt x eight) (cond (lt (neg eight) x) (magnitude x) (f32 0)) (f32 0)
+abbrev pub inside_of : Float → Float
+inside_of x = cond (lt x eight) (cond (lt (neg eight) x) (magnitude x) (f32 0)) (f32 0)
 
 -- Its place in the table, as a float.
 abbrev pub place_in : Float → Float
-place_in x = of_int binary32 (pos (place (insideOf x)))
+place_in x = of_int binary32 (pos (place (inside_of x)))
 
 -- The entry of the table at that place.
-abbrev pub entryIn : List Float → Float → Float
-entryIn table x = at table (place (insideOf x))
+abbrev pub entry_in : List Float → Float → Float
+entry_in table x = at table (place (inside_of x))
 
 -- `inner` if `tansig_approx` looks x up, and otherwise its value at that end: 1, -1, or 0 for a NaN.
-abbrev pub endedBy : Float → Float → Float
-endedBy x inner = cond (is_nan x) (f32 0) (cond (lt x eight) (cond (lt (neg eight) x) inner (neg one)) one)
+abbrev pub ended_by : Float → Float → Float
+ended_by x inner = cond (is_nan x) (f32 0) (cond (lt x eight) (cond (lt (neg eight) x) inner (neg one)) one)
 
 -- tansig_approx of x, from the entry y of the table.
 abbrev pub followed : Float → Float → Float
-followed x y = endedBy x (sign_of x ⊗ curve y (insideOf x ⊖ f32 0x3D23D70A ⊗ place_in x))
+followed x y = ended_by x (sign_of x ⊗ curve y (inside_of x ⊖ f32 0x3D23D70A ⊗ place_in x))
 
 -- What the filter keeps within a call, as a memory.
-abbrev pub memoryIn : Kept → Memory
-memoryIn kept = record { m0 = kept.m0; m1 = kept.m1 }
+abbrev pub memory_in : Kept → Memory
+memory_in kept = record { m0 = kept.m0; m1 = kept.m1 }
 
 -- The bits of a float: those of its magnitude, and its sign.
 abbrev pub with_sign : Format → Bool → ℕ → ℕ

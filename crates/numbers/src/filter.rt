@@ -3,8 +3,8 @@ ghost use Rattle.std.specs.Prelude.{◌≡◌, T, [], ◌∷◌, length};
 ghost use Rattle.std.specs.Float.{binary32};
 ghost use Rattle.std.specs.Float.Ieee.{fits};
 ghost use Rattle.rules.specs.Leaf.{Leaf, ◌leaving◌};
-ghost use Rattle.numbers.specs.Filter.{memoryAfter, outputs, answer};
-ghost use Rattle.numbers.specs.Private.{memoryIn};
+ghost use Rattle.numbers.specs.Filter.{memory_after, outputs, answer};
+ghost use Rattle.numbers.specs.Private.{memory_in};
 
 // The coefficients of y[n] = x[n] + b0 * x[n-1] + b1 * x[n-2] - a0 * y[n-1] - a1 * y[n-2].
 #[derive(Drop)]
@@ -55,9 +55,9 @@ impl Biquad {
     // Filters input into output; 5 where their lengths differ.
     pub fn filter(self, output: &mut [f32], memory: Memory, input: &[f32]) -> Filtered
         ensures { Leaf (length output.old ≡ length input.now)
-            (result leaving (λ x. x.now) output.exit)
-            (answer 0 (memoryAfter self memory input.now) leaving outputs self memory input.now)
-            (answer 5 memory leaving (λ x. x.now) output.entry) }
+            (result leaving output.new)
+            (answer 0 (memory_after self memory input.now) leaving outputs self memory input.now)
+            (answer 5 memory leaving output.old) }
     {
         if output.len() != input.len() {
             return Filtered { number: 5, memory };
@@ -82,8 +82,8 @@ impl Biquad {
 
     // The filter over one sample. What is fed back is `y64`, before it is rounded.
     fn turn(self, kept: Kept, x: f32) -> Turned
-        ensures { (memoryIn result.kept ≡ memoryAfter self (memoryIn kept) (x ∷ []))
-            × (result.y ∷ [] ≡ outputs self (memoryIn kept) (x ∷ [])) }
+        ensures { (memory_in result.kept ≡ memory_after self (memory_in kept) (x ∷ []))
+            × (result.y ∷ [] ≡ outputs self (memory_in kept) (x ∷ [])) }
     {
         let x64 = wide(x);
         let y64 = x64 + kept.m0;

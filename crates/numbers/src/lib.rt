@@ -11,10 +11,10 @@ ghost use Rattle.std.specs.Float.Ieee.{lt, of_int};
 ghost use Rattle.std.specs.Float.Ieee.Nearest.{closest};
 ghost use Rattle.rules.specs.F32.{f32};
 ghost use Rattle.numbers.specs.Narrowed.{narrowed};
-ghost use Rattle.numbers.specs.Root.{twiceRoot, root};
+ghost use Rattle.numbers.specs.Root.{twice_root, root};
 ghost use Rattle.numbers.specs.Larger.{yields, larger, smaller, clamped, rectified};
-ghost use Rattle.numbers.specs.Activations.{magnitude, sign_of, place, tansigIn, tansigApprox, sigmoidApprox};
-ghost use Rattle.numbers.specs.Private.{UpToEight, overshoot, insideOf, place_in, entryIn, endedBy, followed};
+ghost use Rattle.numbers.specs.Activations.{magnitude, sign_of, place, tansig_in, tansig_approx, sigmoid_approx};
+ghost use Rattle.numbers.specs.Private.{UpToEight, overshoot, inside_of, place_in, entry_in, ended_by, followed};
 ghost use Rattle.numbers.specs.Private.{Narrows};
 
 pub mod filter;
@@ -123,7 +123,7 @@ fn place_of(x: f32) -> f32
 
 // Without its sign where it lies between -8 and 8, and 0 elsewhere.
 fn inside(x: f32) -> f32
-    ensures { result ≡ insideOf x }
+    ensures { result ≡ inside_of x }
 {
     if x < 8.0 {
         if x > -8.0 {
@@ -135,7 +135,7 @@ fn inside(x: f32) -> f32
 
 // The number where x lies between -8 and 8, 1 or -1 elsewhere, and 0 for a NaN.
 fn ended(x: f32, inner: f32) -> f32
-    ensures { result ≡ endedBy x inner }
+    ensures { result ≡ ended_by x inner }
 {
     if x != x {
         return 0.0;
@@ -152,7 +152,7 @@ fn ended(x: f32, inner: f32) -> f32
 // The table's entry at the place of x.
 fn entry_at(table: &[f32; 201], place: f32, x: f32) -> f32
     requires { place ≡ place_in x }
-    ensures { result ≡ entryIn table.now x }
+    ensures { result ≡ entry_in table.now x }
 {
     let i = place as i32;
     table[i as usize]
@@ -170,7 +170,7 @@ fn follow(x: f32, y: f32) -> f32
 
 // `tansig_approx` over a lent table.
 fn tansig_in(table: &[f32; 201], x: f32) -> f32
-    ensures { result ≡ tansigIn table.now x }
+    ensures { result ≡ tansig_in table.now x }
 {
     let place = place_of(inside(x));
     follow(x, entry_at(table, place, x))
@@ -178,7 +178,7 @@ fn tansig_in(table: &[f32; 201], x: f32) -> f32
 
 // The hyperbolic tangent, nearly.
 pub fn tansig_approx(x: f32) -> f32
-    ensures { result ≡ tansigApprox x }
+    ensures { result ≡ tansig_approx x }
 {
     let i = place_of(inside(x)) as i32;
     follow(x, table::entry(i as u32))
@@ -186,7 +186,7 @@ pub fn tansig_approx(x: f32) -> f32
 
 // The logistic curve, nearly.
 pub fn sigmoid_approx(x: f32) -> f32
-    ensures { result ≡ sigmoidApprox x }
+    ensures { result ≡ sigmoid_approx x }
 {
     0.5 + 0.5 * tansig_approx(0.5 * x)
 }
@@ -307,7 +307,7 @@ pub fn sqrt(x: f32) -> f32
 // The 24 leading digits of the root of n, rounded: a guess that proves right, and else by the whole root.
 fn root_digits(n: u64) -> u64
     requires { n < 2 ^ 54 }
-    ensures { result ≡ closest (twiceRoot n) (2 ^ 4) }
+    ensures { result ≡ closest (twice_root n) (2 ^ 4) }
 {
     let near = guessed_digits(n);
     if near > 0 {
@@ -341,7 +341,7 @@ fn guessed_digits(n: u64) -> u64
 // for: it is at least `r`, and below `r + gap`.
 fn twice_root(n: u64) -> u64
     requires { n < 2 ^ 54 }
-    ensures { result ≡ twiceRoot n }
+    ensures { result ≡ twice_root n }
 {
     let mut r: u64 = 0;
     let mut gap: u64 = 0x800_0000;

@@ -5,8 +5,8 @@ ghost use Rattle.std.specs.Prelude.{◌≡◌, map, length};
 ghost use Rattle.rules.specs.F32.{f32, at, ◌⊕◌, ◌⊗◌};
 ghost use Rattle.rules.specs.Tab.{tab};
 ghost use Rattle.numbers.specs.Larger.{rectified};
-ghost use Rattle.numbers.specs.Activations.{tansigIn, sigmoidIn};
-ghost use Rattle.numbers.specs.Private.{place_in, entryIn, followed};
+ghost use Rattle.numbers.specs.Activations.{tansig_in, sigmoid_in};
+ghost use Rattle.numbers.specs.Private.{place_in, entry_in, followed};
 
 // Each number's place in the table, as a float.
 fn places(spare: &mut [f32], xs: &[f32])
@@ -22,7 +22,7 @@ fn places(spare: &mut [f32], xs: &[f32])
 fn entries(spare: &mut [f32], xs: &[f32], table: &[f32; 201])
     requires { spare.old ≡ tab (length xs.now) (λ j. place_in (at xs.now j)) }
     ensures { spare.new
-        ≡ tab (length xs.now) (λ j. entryIn table.now (at xs.now j)) }
+        ≡ tab (length xs.now) (λ j. entry_in table.now (at xs.now j)) }
 {
     for j in 0..xs.len() {
         spare[j] = crate::entry_at(table, spare[j], xs[j]);
@@ -43,7 +43,7 @@ fn curves(xs: &mut [f32], spare: &[f32])
 // `tansig_approx` of each, over lent room.
 fn at_once(xs: &mut [f32], spare: &mut [f32], table: &[f32; 201])
     requires { length spare.old ≡ length xs.old }
-    ensures { xs.new ≡ map (tansigIn table.now) xs.old }
+    ensures { xs.new ≡ map (tansig_in table.now) xs.old }
 {
     places(spare, &xs[..]);
     entries(spare, &xs[..], table);
@@ -51,7 +51,7 @@ fn at_once(xs: &mut [f32], spare: &mut [f32], table: &[f32; 201])
 }
 
 fn one_by_one(xs: &mut [f32], table: &[f32; 201])
-    ensures { xs.new ≡ map (tansigIn table.now) xs.old }
+    ensures { xs.new ≡ map (tansig_in table.now) xs.old }
 {
     for j in 0..xs.len() {
         xs[j] = crate::tansig_in(table, xs[j]);
@@ -60,7 +60,7 @@ fn one_by_one(xs: &mut [f32], table: &[f32; 201])
 
 // `tansig_approx` of each.
 pub fn tansigs(xs: &mut [f32], table: &[f32; 201])
-    ensures { xs.new ≡ map (tansigIn table.now) xs.old }
+    ensures { xs.new ≡ map (tansig_in table.now) xs.old }
 {
     let n = xs.len();
     if 128 < n {
@@ -90,7 +90,7 @@ fn lift(xs: &mut [f32])
 
 // `sigmoid_approx` of each.
 pub fn sigmoids(xs: &mut [f32], table: &[f32; 201])
-    ensures { xs.new ≡ map (sigmoidIn table.now) xs.old }
+    ensures { xs.new ≡ map (sigmoid_in table.now) xs.old }
 {
     halve(xs);
     tansigs(xs, table);

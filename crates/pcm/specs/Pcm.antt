@@ -4,7 +4,7 @@
 use Rattle.rules.specs.Common.{ℕ, ◌+◌, ◌-◌, ◌*◌, ◌/◌, ◌%◌, min, ◌≤◌, ◌<◌, Bool, cond, ◌&&◌, List, ◌≡◌, eqb, ltb, length}
 use Rattle.rules.specs.Common.{pos, Float, binary32, nan}
 use Rattle.rules.specs.Common.{inf, fin, of_int, le, neg, up, down, of_bits}
-use Rattle.rules.specs.F32.{◌⊕◌, ◌⊗◌, ◌⊘◌, f32, at, natAt}
+use Rattle.rules.specs.F32.{◌⊕◌, ◌⊗◌, ◌⊘◌, f32, at, nat_at}
 use Rattle.rules.specs.Tab.{tab}
 use Rattle.numbers.specs.Larger.{clamped}
 
@@ -15,16 +15,16 @@ abbrev pub width : ℕ → ℕ
 width format = cond (eqb format 16) 2 (cond (eqb format 24) 3 (cond (eqb format 33) 4 (cond (eqb format 32) 4 0)))
 
 -- Two bytes from place a on, the low byte first.
-abbrev pub twoBytesAt : List ℕ → ℕ → ℕ
-twoBytesAt bytes a = natAt bytes a + 256 * natAt bytes (a + 1)
+abbrev pub two_bytes_at : List ℕ → ℕ → ℕ
+two_bytes_at bytes a = nat_at bytes a + 256 * nat_at bytes (a + 1)
 
 -- Three bytes from place a on, the low byte first.
-abbrev pub threeBytesAt : List ℕ → ℕ → ℕ
-threeBytesAt bytes a = twoBytesAt bytes a + 65536 * natAt bytes (a + 2)
+abbrev pub three_bytes_at : List ℕ → ℕ → ℕ
+three_bytes_at bytes a = two_bytes_at bytes a + 65536 * nat_at bytes (a + 2)
 
 -- Four bytes from place a on, the low byte first.
-abbrev pub fourBytesAt : List ℕ → ℕ → ℕ
-fourBytesAt bytes a = threeBytesAt bytes a + 16777216 * natAt bytes (a + 3)
+abbrev pub four_bytes_at : List ℕ → ℕ → ℕ
+four_bytes_at bytes a = three_bytes_at bytes a + 16777216 * nat_at bytes (a + 3)
 
 -- Two's complement: n if it is below `half`, and otherwise n minus twice `half`.
 unfoldable pub signed : ℕ → ℕ → Float
@@ -40,33 +40,33 @@ unfoldable pub clipped : Float → Float → Float → Float
 clipped low high y = cond (finite y) (clamped y low high) y
 
 -- Clipped to the range of a sample, -32768 to 32767.
-abbrev pub asSample : Float → Float
-asSample y = clipped (neg (f32 0x47000000)) (f32 0x46FFFE00) y
+abbrev pub as_sample : Float → Float
+as_sample y = clipped (neg (f32 0x47000000)) (f32 0x46FFFE00) y
 
 -- A whole number of 32 bits divided by 65,536: the upper two bytes are the whole part, and the lower two the fraction.
 -- Each part is exact, so the sum is rounded only once.
 unfoldable pub halves : List ℕ → ℕ → Float
 unfolding signed
-halves bytes a = signed 32768 (twoBytesAt bytes (a + 2)) ⊕ of_int binary32 (pos (twoBytesAt bytes a)) ⊘ f32 0x47800000
+halves bytes a = signed 32768 (two_bytes_at bytes (a + 2)) ⊕ of_int binary32 (pos (two_bytes_at bytes a)) ⊘ f32 0x47800000
 
 -- The sample whose bytes begin at place a. With 24 bits the lowest byte is a fraction. A float has full scale at 1: it
 -- is clipped to -1 and 32767 / 32768, and then scaled.
-unfoldable pub numberAt : ℕ → List ℕ → ℕ → Float
+unfoldable pub number_at : ℕ → List ℕ → ℕ → Float
 unfolding signed clipped halves
-numberAt format bytes a =
-    cond (eqb format 16) (signed 32768 (twoBytesAt bytes a))
-    (cond (eqb format 24) (asSample (signed 8388608 (threeBytesAt bytes a) ⊘ f32 0x43800000))
-    (cond (eqb format 33) (asSample (halves bytes a))
-    (f32 0x47000000 ⊗ clipped (neg (f32 0x3F800000)) (f32 0x3F7FFE00) (of_bits binary32 (fourBytesAt bytes a)))))
+number_at format bytes a =
+    cond (eqb format 16) (signed 32768 (two_bytes_at bytes a))
+    (cond (eqb format 24) (as_sample (signed 8388608 (three_bytes_at bytes a) ⊘ f32 0x43800000))
+    (cond (eqb format 33) (as_sample (halves bytes a))
+    (f32 0x47000000 ⊗ clipped (neg (f32 0x3F800000)) (f32 0x3F7FFE00) (of_bits binary32 (four_bytes_at bytes a)))))
 
 -- The place of sample i of a channel, if `channels` channels take turns.
-abbrev pub samplePlace : ℕ → ℕ → ℕ → ℕ → ℕ
-samplePlace format channels channel i = (i * channels + channel) * width format
+abbrev pub sample_place : ℕ → ℕ → ℕ → ℕ → ℕ
+sample_place format channels channel i = (i * channels + channel) * width format
 
 -- The first n samples of one channel.
 unfoldable pub unpacked : ℕ → List ℕ → ℕ → ℕ → ℕ → List Float
-unfolding numberAt
-unpacked n bytes format channels channel = tab n (λ i. numberAt format bytes (samplePlace format channels channel i))
+unfolding number_at
+unpacked n bytes format channels channel = tab n (λ i. number_at format bytes (sample_place format channels channel i))
 
 -- The arguments fit.
 pub record UnpackFits (out bytes format channels channel : ℕ) : Type 0 where

@@ -18,9 +18,9 @@ fn unpack_core(out: &mut [f32], bytes: &[u8], format: u32, channels: usize, chan
 // Fills `out` with the samples of one channel. In `bytes` the channels take turns.
 pub fn unpack(out: &mut [f32], bytes: &[u8], format: u32, channels: usize, channel: usize) -> u32
     ensures { Leaf (UnpackFits (length out.old) (length bytes.now) format channels channel)
-        (result leaving (λ x. x.now) out.exit)
+        (result leaving out.new)
         (0 leaving unpacked (length out.old) bytes.now format channels channel)
-        (5 leaving (λ x. x.now) out.entry) }
+        (5 leaving out.old) }
 {
     let width = crate::number::width_of(format);
     if width == 0 {
@@ -58,9 +58,9 @@ fn pack_core(out: &mut [u8], samples: &[f32])
 // Writes each sample as two bytes.
 pub fn pack(out: &mut [u8], samples: &[f32]) -> u32
     ensures { Leaf (PackFits (length out.old) (length samples.now))
-        (result leaving (λ x. x.now) out.exit)
+        (result leaving out.new)
         (0 leaving packed samples.now)
-        (5 leaving (λ x. x.now) out.entry) }
+        (5 leaving out.old) }
 {
     if out.len() % 2 != 0 {
         return 5;

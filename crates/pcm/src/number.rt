@@ -1,7 +1,7 @@
 // One sample from its bytes.
 ghost use Rattle.std.specs.Prelude.{◌≡◌, ◌+◌, ◌*◌, ◌<◌, ◌≤◌, length, from_bits};
 ghost use Rattle.std.specs.Float.{binary32};
-ghost use Rattle.pcm.specs.Pcm.{width, twoBytesAt, threeBytesAt, fourBytesAt, signed, clipped, halves, numberAt};
+ghost use Rattle.pcm.specs.Pcm.{width, two_bytes_at, three_bytes_at, four_bytes_at, signed, clipped, halves, number_at};
 
 // The bytes of a sample in this format, or 0 if there is no such format.
 pub fn width_of(format: u32) -> usize
@@ -29,7 +29,7 @@ fn wide(b: u8) -> u32
 // Two bytes from place a on, the low byte first.
 fn two(bytes: &[u8], a: usize) -> u32
     requires { a + 2 ≤ length bytes.now }
-    ensures { (result ≡ twoBytesAt bytes.now a) × (result < 65536) }
+    ensures { (result ≡ two_bytes_at bytes.now a) × (result < 65536) }
 {
     wide(bytes[a]) + 256 * wide(bytes[a + 1])
 }
@@ -37,7 +37,7 @@ fn two(bytes: &[u8], a: usize) -> u32
 // Three bytes from place a on, the low byte first.
 fn three(bytes: &[u8], a: usize) -> u32
     requires { a + 3 ≤ length bytes.now }
-    ensures { (result ≡ threeBytesAt bytes.now a) × (result < 16777216) }
+    ensures { (result ≡ three_bytes_at bytes.now a) × (result < 16777216) }
 {
     two(bytes, a) + 65536 * wide(bytes[a + 2])
 }
@@ -45,7 +45,7 @@ fn three(bytes: &[u8], a: usize) -> u32
 // Four bytes from place a on, the low byte first.
 fn four(bytes: &[u8], a: usize) -> u32
     requires { a + 4 ≤ length bytes.now }
-    ensures { result ≡ fourBytesAt bytes.now a }
+    ensures { result ≡ four_bytes_at bytes.now a }
 {
     three(bytes, a) + 16777216 * wide(bytes[a + 3])
 }
@@ -100,7 +100,7 @@ fn halves(bytes: &[u8], a: usize) -> f32
 // The sample whose bytes begin at place a.
 pub(crate) fn number_at(format: u32, bytes: &[u8], a: usize) -> f32
     requires { (0 < width format) × (a + width format ≤ length bytes.now) }
-    ensures { result ≡ numberAt format bytes.now a }
+    ensures { result ≡ number_at format bytes.now a }
 {
     if format == 16 {
         return signed(32768, two(bytes, a));

@@ -15,9 +15,9 @@ use Rattle.frame.specs.Share.{SHARE}
 use Rattle.frame.specs.Reply.{passed}
 use Rattle.frame.specs.Frame.{counted, checked}
 use Rattle.frame.proofs.Tables.{Clear, cleared}
-use Rattle.pieces.specs.Pieces.{waitingIn, completes, frame_at, waitedOf, pieceFits, pieceRows, begun, piece}
-use Rattle.pieces.specs.Pieces.{resumeFits, resumeRows, resumed, resume}
-use Rattle.pieces.specs.Private.{pieceReply, resumeReply}
+use Rattle.pieces.specs.Pieces.{waiting_in, completes, frame_at, waited_of, piece_fits, piece_rows, begun, piece}
+use Rattle.pieces.specs.Pieces.{resume_fits, resume_rows, resumed, resume}
+use Rattle.pieces.specs.Private.{piece_reply, resume_reply}
 use Rattle.pieces.proofs.Tested.{not-not}
 
 -- ---- a piece
@@ -29,17 +29,17 @@ pub record Piece (share : List Float) (waiting : ℕ) (samples : List Float) (ou
   pub few : length samples ≤ 4096
   pub room : 480 * completes waiting (length samples) ≤ out
   pub places : sums ≡ 22
-  pub waited : good (waitingIn waiting share) ≡ true
+  pub waited : good (waiting_in waiting share) ≡ true
   pub fine : good samples ≡ true
 
-pub fits-waiting : (waiting size out sums : ℕ) → pieceFits waiting size out sums ≡ true → waiting ≤ 479
-unfolding pieceFits
-fits-waiting waiting size out sums e = leb-true waiting 479 (both (leb waiting 479) _ e).0
+pub fits_waiting : (waiting size out sums : ℕ) → piece_fits waiting size out sums ≡ true → waiting ≤ 479
+unfolding piece_fits
+fits_waiting waiting size out sums e = leb-true waiting 479 (both (leb waiting 479) _ e).0
 
 module _ (share : List Float) (waiting : ℕ) (samples : List Float) (out sums : ℕ) where
-  pub piece-cleared : Clear (pieceRows share waiting samples out sums) → Piece share waiting samples out sums
-  unfolding pieceFits
-  piece-cleared c =
+  pub piece_cleared : Clear (piece_rows share waiting samples out sums) → Piece share waiting samples out sums
+  unfolding piece_fits
+  piece_cleared c =
       let p = both (leb waiting 479) _ (not-not 5 _ c.1.0) in
       let q = both (leb 1 (length samples)) _ p.1 in
       let r = both (leb (length samples) 4096) _ q.1 in
@@ -55,12 +55,12 @@ module _ (share : List Float) (waiting : ℕ) (samples : List Float) (out sums :
         fine = not-not 9 _ c.1.1.1.0;
       }
 
-  pub piece-accepted : passed (pieceReply share waiting samples out sums) ≡ true → Piece share waiting samples out sums
-  unfolding pieceReply
-  piece-accepted e = piece-cleared (cleared (pieceRows share waiting samples out sums) e)
+  pub piece_accepted : passed (piece_reply share waiting samples out sums) ≡ true → Piece share waiting samples out sums
+  unfolding piece_reply
+  piece_accepted e = piece_cleared (cleared (piece_rows share waiting samples out sums) e)
 
-  fits : Piece share waiting samples out sums → pieceFits waiting (length samples) out sums ≡ true
-  unfolding pieceFits
+  fits : Piece share waiting samples out sums → piece_fits waiting (length samples) out sums ≡ true
+  unfolding piece_fits
   fits k =
       rw (
         le-leb waiting 479 k.waits,
@@ -71,10 +71,10 @@ module _ (share : List Float) (waiting : ℕ) (samples : List Float) (out sums :
       )
 
 module _ (share : List Float) (way : Way) (waiting : ℕ) (samples : List Float) (out sums : ℕ) where
-  pub piece-taken : Piece share waiting samples out sums
+  pub piece_taken : Piece share waiting samples out sums
       → piece share way waiting samples out sums ≡ begun share way waiting samples
   unfolding piece
-  piece-taken k = rw (eq-eqb (length share) SHARE k.size, fits share waiting samples out sums k, k.waited, k.fine)
+  piece_taken k = rw (eq-eqb (length share) SHARE k.size, fits share waiting samples out sums k, k.waited, k.fine)
 
 -- ---- a resume
 
@@ -87,24 +87,24 @@ pub record Resume (share : List Float) (hearing : Hearing) (noted progress : ℕ
   pub few : noted ≤ 4096
   pub same : length samples ≡ noted
   pub taken : length logs ≡ 22
-  pub room : 480 * completes (waitedOf progress) (length samples) ≤ out
+  pub room : 480 * completes (waited_of progress) (length samples) ≤ out
   pub places : sums ≡ 22
   pub right : passed (checked (counted hearing) (read_of model)) ≡ true
   pub fine : good samples ≡ true
 
 module _ (share : List Float) (hearing : Hearing) (noted progress : ℕ) (samples logs : List Float) (model : List ℕ)
     (out sums : ℕ) where
-  pub resume-cleared : Clear (resumeRows share hearing noted progress samples logs model out sums)
+  pub resume_cleared : Clear (resume_rows share hearing noted progress samples logs model out sums)
       → Resume share hearing noted progress samples logs model out sums
-  unfolding resumeFits
-  resume-cleared c =
+  unfolding resume_fits
+  resume_cleared c =
       let p = both (leb hearing.index 7) _ (not-not 5 _ c.1.0) in
       let q = both (leb 1 progress) _ p.1 in
       let r = both (leb progress noted) _ q.1 in
       let s = both (leb noted 4096) _ r.1 in
       let t = both (eqb (length samples) noted) _ s.1 in
       let u = both (eqb (length logs) 22) _ t.1 in
-      let v = both (leb (480 * completes (waitedOf progress) (length samples)) out) _ u.1 in
+      let v = both (leb (480 * completes (waited_of progress) (length samples)) out) _ u.1 in
       record {
         size = eqb-true (length share) SHARE (not-not 5 _ c.0);
         inside = leb-true hearing.index 7 p.0;
@@ -119,22 +119,22 @@ module _ (share : List Float) (hearing : Hearing) (noted progress : ℕ) (sample
         fine = not-not 9 _ c.1.1.1.0;
       }
 
-  pub resume-accepted : passed (resumeReply share hearing noted progress samples logs model out sums) ≡ true
+  pub resume_accepted : passed (resume_reply share hearing noted progress samples logs model out sums) ≡ true
       → Resume share hearing noted progress samples logs model out sums
-  unfolding resumeReply
-  resume-accepted e = resume-cleared (cleared (resumeRows share hearing noted progress samples logs model out sums) e)
+  unfolding resume_reply
+  resume_accepted e = resume_cleared (cleared (resume_rows share hearing noted progress samples logs model out sums) e)
 
   -- what is left of the samples, and the place of the frame under way
-  pub within-samples : Resume share hearing noted progress samples logs model out sums → progress ≤ length samples
-  within-samples k = rw k.same k.within
+  pub within_samples : Resume share hearing noted progress samples logs model out sums → progress ≤ length samples
+  within_samples k = rw k.same k.within
 
-  pub frame-fits : Resume share hearing noted progress samples logs model out sums
+  pub frame_fits : Resume share hearing noted progress samples logs model out sums
       → 480 * (frame_at progress - 1) + 480 ≤ out
-  frame-fits k = omega (arith, k.room, k.same, k.begun, k.within)
+  frame_fits k = omega (arith, k.room, k.same, k.begun, k.within)
 
   suits : Resume share hearing noted progress samples logs model out sums
-      → resumeFits hearing.index noted progress (length samples) (length logs) out sums ≡ true
-  unfolding resumeFits
+      → resume_fits hearing.index noted progress (length samples) (length logs) out sums ≡ true
+  unfolding resume_fits
   suits k =
       rw (
         le-leb hearing.index 7 k.inside,
@@ -147,8 +147,8 @@ module _ (share : List Float) (hearing : Hearing) (noted progress : ℕ) (sample
         eq-eqb sums 22 k.places,
       )
 
-  pub resume-taken : Resume share hearing noted progress samples logs model out sums
+  pub resume_taken : Resume share hearing noted progress samples logs model out sums
       → resume share hearing noted progress samples logs model out sums
       ≡ resumed share hearing progress samples logs model
   unfolding resume
-  resume-taken k = rw (eq-eqb (length share) SHARE k.size, suits k, k.right, k.fine)
+  resume_taken k = rw (eq-eqb (length share) SHARE k.size, suits k, k.right, k.fine)

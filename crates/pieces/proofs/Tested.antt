@@ -12,27 +12,27 @@ use Rattle.frame.specs.declared.Reply.{Reply}
 use Rattle.frame.specs.declared.Reply.TheVariants.{Done, Refused, Misread}
 use Rattle.frame.specs.Reply.{passed, ◌refusedIf◌}
 use Rattle.frame.specs.Frame.{counted, checked}
-use Rattle.frame.proofs.Tables.{not-when}
+use Rattle.frame.proofs.Tables.{not_when}
 
 pub not-not : (n : ℕ) (t : Bool) → passed (n refusedIf not t) ≡ true → t ≡ true
-not-not n t h = not-false t (not-when n (not t) h)
+not-not n t h = not-false t (not_when n (not t) h)
 
 module _ (hearing : Hearing) (model : List ℕ) where
   abbrev row : Reply
   row = checked (counted hearing) (read_of model)
 
   -- a model that is refused comes with what the reader says of it
-  pub by-model : (P : Reply → Type 0) → ((n : ℕ) → P (Refused n))
+  pub by_model : (P : Reply → Type 0) → ((n : ℕ) → P (Refused n))
       → ((n l : ℕ) → Unread n l ≡ read_of model → P (Misread n l))
       → passed (checked (counted hearing) (read_of model)) ≡ false → P (checked (counted hearing) (read_of model))
   unfolding checked
-  by-model P bad misread = by-reading (read_of model) refl
+  by_model P bad misread = by_reading_lem (read_of model) refl
     where
       by_count : (t : Bool) → passed (cond t Done (Refused 8)) ≡ false → P (cond t Done (Refused 8))
       by_count true h = absurd (true≢false h)
       by_count false h = bad 8
 
-      by-reading : (r : Reading) → r ≡ read_of model → passed (checked (counted hearing) r) ≡ false
+      by_reading_lem : (r : Reading) → r ≡ read_of model → passed (checked (counted hearing) r) ≡ false
           → P (checked (counted hearing) r)
-      by-reading (Unread n l) e h = misread n l e
-      by-reading (Good m) e h = by_count (counted hearing m) h
+      by_reading_lem (Unread n l) e h = misread n l e
+      by_reading_lem (Good m) e h = by_count (counted hearing m) h

@@ -1,14 +1,14 @@
 -- For the contracts of private functions.
 use Rattle.rules.specs.Common.{ℕ, List, Float}
-use Rattle.frame.specs.Reply.{firstRefusal}
+use Rattle.frame.specs.Reply.{first_refusal}
 use Rattle.frame.specs.declared.Hearing.{Hearing}
 use Rattle.frame.specs.declared.Reply.{Reply}
-use Rattle.pieces.specs.Pieces.{pieceRows, resumeRows}
+use Rattle.pieces.specs.Pieces.{piece_rows, resume_rows}
 
 -- The refusal of a piece or of a resume, or Done.
-unfoldable pub pieceReply : List Float → ℕ → List Float → ℕ → ℕ → Reply
-pieceReply share waiting samples out sums = firstRefusal (pieceRows share waiting samples out sums)
+unfoldable pub piece_reply : List Float → ℕ → List Float → ℕ → ℕ → Reply
+piece_reply share waiting samples out sums = first_refusal (piece_rows share waiting samples out sums)
 
-unfoldable pub resumeReply : List Float → Hearing → ℕ → ℕ → List Float → List Float → List ℕ → ℕ → ℕ → Reply
-resumeReply share hearing piece progress samples logs model out sums =
-    firstRefusal (resumeRows share hearing piece progress samples logs model out sums)
+unfoldable pub resume_reply : List Float → Hearing → ℕ → ℕ → List Float → List Float → List ℕ → ℕ → ℕ → Reply
+resume_reply share hearing piece progress samples logs model out sums =
+    first_refusal (resume_rows share hearing piece progress samples logs model out sums)

@@ -1,14 +1,14 @@
 // A piece: its samples wait after those that wait already, or 480 of them all begin its first frame.
 ghost use Rattle.std.specs.Prelude.{◌≡◌, [], ◌∷◌, length};
 ghost use Rattle.frame.specs.Effect.{Worked};
-ghost use Rattle.pieces.specs.Pieces.{pieceFits, piece};
-ghost use Rattle.pieces.specs.Private.{pieceReply};
+ghost use Rattle.pieces.specs.Pieces.{piece_fits, piece};
+ghost use Rattle.pieces.specs.Private.{piece_reply};
 
 use frame::{Reply, Way};
 
 // Whether a piece of this size, with so many samples waiting, fits its buffers.
 pub fn piece_fits(waiting: usize, size: usize, out: usize, sums: usize) -> bool
-    ensures { result ≡ pieceFits waiting size out sums }
+    ensures { result ≡ piece_fits waiting size out sums }
 {
     if waiting > 479 {
         return false;
@@ -27,7 +27,7 @@ pub fn piece_fits(waiting: usize, size: usize, out: usize, sums: usize) -> bool
 
 // Refusals 5 and 9 of a piece, or Done.
 fn piece_reply(share: &[f32], waiting: usize, samples: &[f32], out: usize, sums: usize) -> Reply
-    ensures { result ≡ pieceReply share.now waiting samples.now out sums }
+    ensures { result ≡ piece_reply share.now waiting samples.now out sums }
 {
     if share.len() != frame::SHARE {
         return Reply::Refused(5);

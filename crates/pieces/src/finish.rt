@@ -5,10 +5,10 @@ ghost use Rattle.samples.specs.Samples.{good};
 ghost use Rattle.model.specs.Model.{read_of};
 ghost use Rattle.frame.specs.declared.Reply.TheVariants.{Done};
 ghost use Rattle.frame.specs.Effect.{Worked};
-ghost use Rattle.frame.specs.Reply.{◌refusedIf◌, firstRefusal};
+ghost use Rattle.frame.specs.Reply.{◌refusedIf◌, first_refusal};
 ghost use Rattle.frame.specs.Frame.{counted, checked};
-ghost use Rattle.pieces.specs.Pieces.{further, resumeFits, resume};
-ghost use Rattle.pieces.specs.Private.{resumeReply};
+ghost use Rattle.pieces.specs.Pieces.{further, resume_fits, resume};
+ghost use Rattle.pieces.specs.Private.{resume_reply};
 
 use frame::{Hearing, Reply, Way};
 
@@ -22,7 +22,7 @@ fn resume_fits(
     out: usize,
     sums: usize,
 ) -> bool
-    ensures { result ≡ resumeFits index piece progress size logs out sums }
+    ensures { result ≡ resume_fits index piece progress size logs out sums }
 {
     if index > 7 {
         return false;
@@ -51,7 +51,7 @@ fn resume_fits(
 
 // The tests after the lengths: refusals 7 to 9, or Done.
 pub fn last_tests(hearing: Hearing, model: &[u8], fine: bool) -> Reply
-    ensures { result ≡ firstRefusal
+    ensures { result ≡ first_refusal
         (checked (counted hearing) (read_of model.now) ∷ 9 refusedIf not fine ∷ []) }
 {
     let reply = frame::check(model, hearing);
@@ -77,7 +77,7 @@ fn resume_reply(
     sums: usize,
 ) -> Reply
     ensures { result
-        ≡ resumeReply share.now hearing piece progress
+        ≡ resume_reply share.now hearing piece progress
         samples.now logs.now model.now out sums }
 {
     if share.len() != frame::SHARE {

@@ -2,13 +2,13 @@
 // them.
 ghost use Rattle.std.specs.Prelude.{true, ◌≡◌, ◌+◌, ◌≤◌, length};
 ghost use Rattle.rules.specs.Place.{get, put};
-ghost use Rattle.frame.specs.Written.{from, over, firstIn};
+ghost use Rattle.frame.specs.Written.{from, over, first_in};
 ghost use Rattle.samples.specs.Samples.{good};
 ghost use Rattle.model.specs.Model.{read_of};
 ghost use Rattle.frame.specs.Reply.{passed};
 ghost use Rattle.frame.specs.Frame.{counted, checked};
-ghost use Rattle.halves.specs.Halves.{firstHalf, secondHalf};
-ghost use Rattle.pieces.specs.Pieces.{framePart};
+ghost use Rattle.halves.specs.Halves.{first_half, second_half};
+ghost use Rattle.pieces.specs.Pieces.{frame_part};
 
 use frame::{Hearing, PART, Reply, Way};
 
@@ -17,10 +17,10 @@ pub(crate) fn enter(share: &mut [f32], way: Way, samples: &[f32], sums: &mut [f3
     requires { (length share.old ≡ 6144) × (length samples.now ≡ 480) × (good samples.now ≡ true)
         × (length sums.old ≡ 22) }
     ensures share_after { share.new
-        ≡ put framePart share.old
-        (firstHalf (get framePart share.old) way samples.now 22).kept }
+        ≡ put frame_part share.old
+        (first_half (get frame_part share.old) way samples.now 22).kept }
     ensures sums_after { sums.new
-        ≡ firstIn (firstHalf (get framePart share.old) way samples.now 22).written }
+        ≡ first_in (first_half (get frame_part share.old) way samples.now 22).written }
 {
     halves::first_half(&mut share[0..PART], way, samples, sums);
 }
@@ -38,14 +38,14 @@ pub(crate) fn leave(
         × (start + 480 ≤ length out.old) }
     requires model_value { passed (checked (counted hearing) (read_of model.now)) ≡ true }
     ensures value { result
-        ≡ (secondHalf (get framePart share.old) hearing logs.now
+        ≡ (second_half (get frame_part share.old) hearing logs.now
         model.now 480).answer }
     ensures share_after { share.new
-        ≡ put framePart share.old
-        (secondHalf (get framePart share.old) hearing logs.now model.now 480).kept }
+        ≡ put frame_part share.old
+        (second_half (get frame_part share.old) hearing logs.now model.now 480).kept }
     ensures out_after { out.new
         ≡ over (from start
-        (firstIn (secondHalf (get framePart share.old) hearing logs.now
+        (first_in (second_half (get frame_part share.old) hearing logs.now
         model.now 480).written))
         out.old }
 {

@@ -3,7 +3,7 @@ ghost use Rattle.std.specs.Prelude.{◌≡◌, ◌≤◌, [], ◌++◌, length, 
 ghost use Rattle.rules.specs.F32.{f32};
 ghost use Rattle.rules.specs.Place.{put};
 ghost use Rattle.samples.specs.Samples.{good};
-ghost use Rattle.pieces.specs.Pieces.{waitingPlace, waitingIn, paddedTo, waits};
+ghost use Rattle.pieces.specs.Pieces.{waiting_place, waiting_in, padded_to, waits};
 
 // The places at which samples may wait begin here and end there.
 const FROM: usize = frame::PART;
@@ -27,7 +27,7 @@ fn pick(front: &[f32], rest: &[f32], i: usize) -> f32
 // `out` becomes the front followed by the rest, as far as it has room, filled up with zeros.
 pub fn join(out: &mut [f32], front: &[f32], rest: &[f32])
     ensures { out.new
-        ≡ paddedTo (length out.old) (front.now ++ rest.now) }
+        ≡ padded_to (length out.old) (front.now ++ rest.now) }
 {
     for i in 0..out.len() {
         out[i] = pick(front, rest, i);
@@ -37,7 +37,7 @@ pub fn join(out: &mut [f32], front: &[f32], rest: &[f32])
 // Whether the samples that wait are good.
 pub(crate) fn waiting_good(share: &[f32], waiting: usize) -> bool
     requires { (length share.now ≡ 6144) × (waiting ≤ 479) }
-    ensures { result ≡ good (waitingIn waiting share.now) }
+    ensures { result ≡ good (waiting_in waiting share.now) }
 {
     let end = FROM + waiting;
     samples::all_good(&share[FROM..end])
@@ -47,7 +47,7 @@ pub(crate) fn waiting_good(share: &[f32], waiting: usize) -> bool
 pub(crate) fn gather(first: &mut [f32], share: &[f32], waiting: usize, samples: &[f32])
     requires { (length share.now ≡ 6144) × (waiting ≤ 479) }
     ensures { first.new
-        ≡ paddedTo (length first.old) (waitingIn waiting share.now ++ samples.now) }
+        ≡ padded_to (length first.old) (waiting_in waiting share.now ++ samples.now) }
 {
     let end = FROM + waiting;
     join(first, &share[FROM..end], samples);
@@ -56,7 +56,7 @@ pub(crate) fn gather(first: &mut [f32], share: &[f32], waiting: usize, samples: 
 // Lets the first 479 numbers wait.
 pub(crate) fn settle(share: &mut [f32], first: &[f32])
     requires { (length share.old ≡ 6144) × (length first.now ≡ 480) }
-    ensures { share.new ≡ put (waitingPlace 479) share.old (take 479 first.now) }
+    ensures { share.new ≡ put (waiting_place 479) share.old (take 479 first.now) }
 {
     rules::copy(&mut share[FROM..TO], &first[0..479]);
 }

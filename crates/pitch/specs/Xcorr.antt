@@ -5,25 +5,25 @@ use Rattle.rules.specs.F32.{◌⊕◌, ◌⊗◌, at, f32}
 use Rattle.rules.specs.Tab.{tab}
 
 -- Rust: sum += xs[j] * ys[i + j].
-abbrev pub termStep : List Float → List Float → ℕ → ℕ → Float → Float
-termStep xs ys i j sum = sum ⊕ at xs j ⊗ at ys (i + j)
+abbrev pub term_step : List Float → List Float → ℕ → ℕ → Float → Float
+term_step xs ys i j sum = sum ⊕ at xs j ⊗ at ys (i + j)
 
 -- The sum at lag i, which starts from `zero`.
 unfoldable pub corr : Float → List Float → List Float → ℕ → Float
-corr zero xs ys i = loop (length xs) (termStep xs ys i) zero
+corr zero xs ys i = loop (length xs) (term_step xs ys i) zero
 
 -- How many of n lags the Rust computes four at a time.
-abbrev pub wholeFours : ℕ → ℕ
-wholeFours n = n - n % 4
+abbrev pub whole_fours : ℕ → ℕ
+whole_fours n = n - n % 4
 
 -- The sum at lag i of n. It starts from +0.0 for the lags that go four at a time, and from -0.0 for the others, because
 -- `Iterator::sum` starts from -0.0.
-abbrev pub lagOf : List Float → List Float → ℕ → ℕ → Float
-lagOf xs ys n i = corr (cond (ltb i (wholeFours n)) (f32 0) (neg (f32 0))) xs ys i
+abbrev pub lag_of : List Float → List Float → ℕ → ℕ → Float
+lag_of xs ys n i = corr (cond (ltb i (whole_fours n)) (f32 0) (neg (f32 0))) xs ys i
 
 -- Rust: for i in 0..n { xcorr[i] = xs.iter().zip(&ys[i..]).map(|(&x, &y)| x * y).sum() }.
-unfoldable pub pitchXcorr : List Float → List Float → ℕ → List Float
-pitchXcorr xs ys n = tab n (lagOf xs ys n)
+unfoldable pub pitch_xcorr : List Float → List Float → ℕ → List Float
+pitch_xcorr xs ys n = tab n (lag_of xs ys n)
 
 -- The lengths fit.
 pub record XcorrFits (xs ys xcorr : ℕ) : Type 0 where

@@ -2,7 +2,7 @@
 // sixteen share each number that they multiply by, and none waits for another, so four registers of four are busy at a
 // time.
 ghost use Rattle.std.specs.Prelude.{◌≡◌, ◌+◌, ◌≤◌, length};
-ghost use Rattle.pitch.specs.Private.{addFour, fourLags, sixteenLags, storeFour, storeSixteen};
+ghost use Rattle.pitch.specs.Private.{add_four, four_lags, sixteen_lags, store_four, store_sixteen};
 
 // A number for each of four lags in a row.
 #[derive(Drop)]
@@ -25,7 +25,7 @@ pub(crate) struct Sixteen {
 // Adds the next product to each of four sums.
 fn add_four(s: Four, x: f32, ys: &[f32], p: usize) -> Four
     requires { p + 4 ≤ length ys.now }
-    ensures { result ≡ addFour ys.now x p s }
+    ensures { result ≡ add_four ys.now x p s }
 {
     Four {
         a: s.a + x * ys[p],
@@ -38,7 +38,7 @@ fn add_four(s: Four, x: f32, ys: &[f32], p: usize) -> Four
 // The correlations at four neighbouring lags.
 pub(crate) fn corr4(xs: &[f32], ys: &[f32], i: usize) -> Four
     requires { i + 3 + length xs.now ≤ length ys.now }
-    ensures { result ≡ fourLags xs.now ys.now i }
+    ensures { result ≡ four_lags xs.now ys.now i }
 {
     let mut s = Four {
         a: 0.0,
@@ -55,7 +55,7 @@ pub(crate) fn corr4(xs: &[f32], ys: &[f32], i: usize) -> Four
 // The correlations at sixteen neighbouring lags.
 pub(crate) fn corr16(xs: &[f32], ys: &[f32], i: usize) -> Sixteen
     requires { i + 15 + length xs.now ≤ length ys.now }
-    ensures { result ≡ sixteenLags xs.now ys.now i }
+    ensures { result ≡ sixteen_lags xs.now ys.now i }
 {
     let mut a = Four {
         a: 0.0,
@@ -80,7 +80,7 @@ pub(crate) fn corr16(xs: &[f32], ys: &[f32], i: usize) -> Sixteen
 // Stores four neighbouring numbers.
 pub(crate) fn put_four(out: &mut [f32], i: usize, v: Four)
     requires { i + 4 ≤ length out.old }
-    ensures { out.new ≡ storeFour out.old i v }
+    ensures { out.new ≡ store_four out.old i v }
 {
     out[i] = v.a;
     out[i + 1] = v.b;
@@ -91,7 +91,7 @@ pub(crate) fn put_four(out: &mut [f32], i: usize, v: Four)
 // Stores sixteen neighbouring numbers.
 pub(crate) fn put_sixteen(out: &mut [f32], i: usize, v: Sixteen)
     requires { i + 16 ≤ length out.old }
-    ensures { out.new ≡ storeSixteen out.old i v }
+    ensures { out.new ≡ store_sixteen out.old i v }
 {
     put_four(out, i, v.a);
     put_four(out, i + 4, v.b);

@@ -5,13 +5,13 @@ ghost use Rattle.std.specs.Float.Ieee.{neg};
 ghost use Rattle.rules.specs.F32.{f32};
 ghost use Rattle.rules.specs.Leaf.{Leaf, ◌leaving◌};
 ghost use Rattle.rules.specs.Tab.{tab};
-ghost use Rattle.pitch.specs.Autocorr.{tailOf, addTails, celtAutocorr, AutocorrFits};
+ghost use Rattle.pitch.specs.Autocorr.{tail_of, add_tails, celt_autocorr, AutocorrFits};
 ghost use Rattle.pitch.specs.Fir.{fir5};
-ghost use Rattle.pitch.specs.Downsample.{halved_at, halved, flooredAt, floored, fadedLpc, coefficients};
+ghost use Rattle.pitch.specs.Downsample.{halved_at, halved, floored_at, floored, faded_lpc, coefficients};
 ghost use Rattle.pitch.specs.Downsample.{downsampled, DownsampleFits};
-ghost use Rattle.pitch.specs.Lpc.{recurrence, mirror, state, lagNext, lagsOf, lpcOf};
-ghost use Rattle.pitch.specs.Xcorr.{corr, wholeFours, lagOf, pitchXcorr, XcorrFits};
-ghost use Rattle.pitch.specs.Private.{wholeSixteens};
+ghost use Rattle.pitch.specs.Lpc.{recurrence, mirror, state, lag_next, lags_of, lpc_of};
+ghost use Rattle.pitch.specs.Xcorr.{corr, whole_fours, lag_of, pitch_xcorr, XcorrFits};
+ghost use Rattle.pitch.specs.Private.{whole_sixteens};
 
 mod lanes;
 
@@ -45,9 +45,9 @@ fn fir5_core(xs: &mut [f32], num: &[f32])
 // A filter of five coefficients, applied to `xs` in place.
 pub fn fir5_in_place(xs: &mut [f32], num: &[f32]) -> u32
     ensures { Leaf (length num.now ≡ 5)
-        (result leaving (λ x. x.now) xs.exit)
+        (result leaving xs.new)
         (0 leaving fir5 xs.old num.now)
-        (5 leaving (λ x. x.now) xs.entry) }
+        (5 leaving xs.old) }
 {
     if num.len() != 5 {
         return 5;
@@ -84,7 +84,7 @@ fn update(lpc: &mut [f32], r: f32, i: usize)
 // One lag more. Returns the error that is left.
 fn lag(lpc: &mut [f32], ac: &[f32], i: usize, error: f32) -> f32
     requires { (i < length lpc.old) × (length lpc.old < length ac.now) }
-    ensures { state lpc.new result ≡ lagNext ac.now i (state lpc.old error) }
+    ensures { state lpc.new result ≡ lag_next ac.now i (state lpc.old error) }
 {
     let rr = recur(lpc, ac, i) + ac[i + 1];
     let r = -rr / error;
@@ -96,7 +96,7 @@ fn lag(lpc: &mut [f32], ac: &[f32], i: usize, error: f32) -> f32
 // All lags, until the gain is 30 dB.
 fn lags(lpc: &mut [f32], ac: &[f32])
     requires { length lpc.old < length ac.now }
-    ensures { lpc.new ≡ lagsOf lpc.old ac.now }
+    ensures { lpc.new ≡ lags_of lpc.old ac.now }
 {
     let mut error = ac[0];
     for i in 0..lpc.len() {
@@ -110,7 +110,7 @@ fn lags(lpc: &mut [f32], ac: &[f32])
 // `lpc` for lengths that fit.
 fn lpc_core(lpc: &mut [f32], ac: &[f32])
     requires { length lpc.old < length ac.now }
-    ensures { lpc.new ≡ lpcOf (length lpc.old) ac.now }
+    ensures { lpc.new ≡ lpc_of (length lpc.old) ac.now }
 {
     rules::clear(lpc);
     if ac[0] == 0.0 {
@@ -122,9 +122,9 @@ fn lpc_core(lpc: &mut [f32], ac: &[f32])
 // Linear predictive coding: the coefficients for as many lags as `lpc` has places, from autocorrelations.
 pub fn lpc(lpc: &mut [f32], ac: &[f32]) -> u32
     ensures { Leaf (length lpc.old < length ac.now)
-        (result leaving (λ x. x.now) lpc.exit)
-        (0 leaving lpcOf (length lpc.old) ac.now)
-        (5 leaving (λ x. x.now) lpc.entry) }
+        (result leaving lpc.new)
+        (0 leaving lpc_of (length lpc.old) ac.now)
+        (5 leaving lpc.old) }
 {
     if ac.len() <= lpc.len() {
         return 5;
@@ -148,9 +148,9 @@ fn corr1(xs: &[f32], ys: &[f32], i: usize) -> f32
 // The lags that are computed sixteen at a time.
 fn xcorr_sixteens(xs: &[f32], ys: &[f32], xcorr: &mut [f32])
     requires { XcorrFits (length xs.now) (length ys.now) (length xcorr.old) }
-    ensures { take (wholeSixteens (length xcorr.old)) xcorr.new
-        ≡ tab (wholeSixteens (length xcorr.old))
-        (lagOf xs.now ys.now (length xcorr.old)) }
+    ensures { take (whole_sixteens (length xcorr.old)) xcorr.new
+        ≡ tab (whole_sixteens (length xcorr.old))
+        (lag_of xs.now ys.now (length xcorr.old)) }
 {
     for k in 0..xcorr.len() / 16 {
         let i = 16 * k;
@@ -161,11 +161,11 @@ fn xcorr_sixteens(xs: &[f32], ys: &[f32], xcorr: &mut [f32])
 // The lags after these that are computed four at a time.
 fn xcorr_fours_left(xs: &[f32], ys: &[f32], xcorr: &mut [f32])
     requires xcorr_fits { XcorrFits (length xs.now) (length ys.now) (length xcorr.old) }
-    requires xcorr_value { take (wholeSixteens (length xcorr.old)) xcorr.old
-        ≡ tab (wholeSixteens (length xcorr.old)) (lagOf xs.now ys.now (length xcorr.old)) }
-    ensures { take (wholeFours (length xcorr.old)) xcorr.new
-        ≡ tab (wholeFours (length xcorr.old))
-        (lagOf xs.now ys.now (length xcorr.old)) }
+    requires xcorr_value { take (whole_sixteens (length xcorr.old)) xcorr.old
+        ≡ tab (whole_sixteens (length xcorr.old)) (lag_of xs.now ys.now (length xcorr.old)) }
+    ensures { take (whole_fours (length xcorr.old)) xcorr.new
+        ≡ tab (whole_fours (length xcorr.old))
+        (lag_of xs.now ys.now (length xcorr.old)) }
 {
     let n = xcorr.len();
     for k in n / 16 * 4..n / 4 {
@@ -177,9 +177,9 @@ fn xcorr_fours_left(xs: &[f32], ys: &[f32], xcorr: &mut [f32])
 // All lags that the Rust computes four at a time.
 fn xcorr_fours(xs: &[f32], ys: &[f32], xcorr: &mut [f32])
     requires { XcorrFits (length xs.now) (length ys.now) (length xcorr.old) }
-    ensures { take (wholeFours (length xcorr.old)) xcorr.new
-        ≡ tab (wholeFours (length xcorr.old))
-        (lagOf xs.now ys.now (length xcorr.old)) }
+    ensures { take (whole_fours (length xcorr.old)) xcorr.new
+        ≡ tab (whole_fours (length xcorr.old))
+        (lag_of xs.now ys.now (length xcorr.old)) }
 {
     xcorr_sixteens(xs, ys, xcorr);
     xcorr_fours_left(xs, ys, xcorr);
@@ -188,10 +188,10 @@ fn xcorr_fours(xs: &[f32], ys: &[f32], xcorr: &mut [f32])
 // The lags that are left.
 fn xcorr_rest(xs: &[f32], ys: &[f32], xcorr: &mut [f32])
     requires xcorr_fits { XcorrFits (length xs.now) (length ys.now) (length xcorr.old) }
-    requires xcorr_value { take (wholeFours (length xcorr.old)) xcorr.old
-        ≡ tab (wholeFours (length xcorr.old)) (lagOf xs.now ys.now (length xcorr.old)) }
+    requires xcorr_value { take (whole_fours (length xcorr.old)) xcorr.old
+        ≡ tab (whole_fours (length xcorr.old)) (lag_of xs.now ys.now (length xcorr.old)) }
     ensures { xcorr.new
-        ≡ pitchXcorr xs.now ys.now (length xcorr.old) }
+        ≡ pitch_xcorr xs.now ys.now (length xcorr.old) }
 {
     let n = xcorr.len();
     for i in n - n % 4..n {
@@ -203,7 +203,7 @@ fn xcorr_rest(xs: &[f32], ys: &[f32], xcorr: &mut [f32])
 fn pitch_xcorr_core(xs: &[f32], ys: &[f32], xcorr: &mut [f32])
     requires { XcorrFits (length xs.now) (length ys.now) (length xcorr.old) }
     ensures { xcorr.new
-        ≡ pitchXcorr xs.now ys.now (length xcorr.old) }
+        ≡ pitch_xcorr xs.now ys.now (length xcorr.old) }
 {
     xcorr_fours(xs, ys, xcorr);
     xcorr_rest(xs, ys, xcorr);
@@ -213,9 +213,9 @@ fn pitch_xcorr_core(xs: &[f32], ys: &[f32], xcorr: &mut [f32])
 pub fn pitch_xcorr(xs: &[f32], ys: &[f32], xcorr: &mut [f32]) -> u32
     ensures { Leaf (XcorrFits (length xs.now) (length ys.now)
         (length xcorr.old))
-        (result leaving (λ x. x.now) xcorr.exit)
-        (0 leaving pitchXcorr xs.now ys.now (length xcorr.old))
-        (5 leaving (λ x. x.now) xcorr.entry) }
+        (result leaving xcorr.new)
+        (0 leaving pitch_xcorr xs.now ys.now (length xcorr.old))
+        (5 leaving xcorr.old) }
 {
     let n = xcorr.len();
     if n == 0 {
@@ -238,7 +238,7 @@ pub fn pitch_xcorr(xs: &[f32], ys: &[f32], xcorr: &mut [f32]) -> u32
 // The products at lag k that `pitch_xcorr` left out: those from `from` on.
 fn tail(x: &[f32], k: usize, from: usize) -> f32
     requires { k + from ≤ length x.now }
-    ensures { result ≡ tailOf x.now k from }
+    ensures { result ≡ tail_of x.now k from }
 {
     let mut d = 0.0f32;
     for i in k + from..x.len() {
@@ -250,7 +250,7 @@ fn tail(x: &[f32], k: usize, from: usize) -> f32
 // Adds them for each lag.
 fn add_tails(x: &[f32], ac: &mut [f32], from: usize)
     requires { length ac.old + from ≤ length x.now + 1 }
-    ensures { ac.new ≡ addTails x.now from ac.old }
+    ensures { ac.new ≡ add_tails x.now from ac.old }
 {
     for k in 0..ac.len() {
         ac[k] = ac[k] + tail(x, k, from);
@@ -260,7 +260,7 @@ fn add_tails(x: &[f32], ac: &mut [f32], from: usize)
 // `celt_autocorr` for lengths that fit.
 fn celt_autocorr_core(x: &[f32], ac: &mut [f32])
     requires { AutocorrFits (length x.now) (length ac.old) }
-    ensures { ac.new ≡ celtAutocorr x.now }
+    ensures { ac.new ≡ celt_autocorr x.now }
 {
     let fast = x.len() - (ac.len() - 1);
     pitch_xcorr_core(&x[..fast], x, ac);
@@ -269,10 +269,10 @@ fn celt_autocorr_core(x: &[f32], ac: &mut [f32])
 
 // The autocorrelation of x at the lags 0 to 4.
 pub fn celt_autocorr(x: &[f32], ac: &mut [f32]) -> u32
-    ensures { Leaf (AutocorrFits (length x.entry.now) (length ac.old))
-        (result leaving (λ x. x.now) ac.exit)
-        (0 leaving celtAutocorr x.entry.now)
-        (5 leaving (λ x. x.now) ac.entry) }
+    ensures { Leaf (AutocorrFits (length x.now) (length ac.old))
+        (result leaving ac.new)
+        (0 leaving celt_autocorr x.now)
+        (5 leaving ac.old) }
 {
     if ac.len() != 5 {
         return 5;
@@ -308,7 +308,7 @@ fn halve(x: &[f32], x_lp: &mut [f32])
 // The noise floor (lag 0) or the lag window (other lags).
 fn floor_at(r: f32, i: usize) -> f32
     requires { i < 5 }
-    ensures { result ≡ flooredAt r i }
+    ensures { result ≡ floored_at r i }
 {
     if i == 0 {
         return r * 1.0001;
@@ -330,7 +330,7 @@ fn floor(ac: &mut [f32])
 // Multiplies coefficient i by 0.9, i + 1 times.
 fn fade_coefficients(lpc: &mut [f32])
     requires { length lpc.old ≡ 4 }
-    ensures { lpc.new ≡ fadedLpc lpc.old }
+    ensures { lpc.new ≡ faded_lpc lpc.old }
 {
     let mut tmp = 1.0f32;
     for i in 0..4 {
@@ -379,10 +379,10 @@ fn pitch_downsample_core(x: &[f32], x_lp: &mut [f32])
 
 // x at half the rate, with a flattened spectrum.
 pub fn pitch_downsample(x: &[f32], x_lp: &mut [f32]) -> u32
-    ensures { Leaf (DownsampleFits (length x.entry.now) (length x_lp.old))
-        (result leaving (λ x. x.now) x_lp.exit)
-        (0 leaving downsampled x.entry.now)
-        (5 leaving (λ x. x.now) x_lp.entry) }
+    ensures { Leaf (DownsampleFits (length x.now) (length x_lp.old))
+        (result leaving x_lp.new)
+        (0 leaving downsampled x.now)
+        (5 leaving x_lp.old) }
 {
     if x.len() != 1728 {
         return 5;

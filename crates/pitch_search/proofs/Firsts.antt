@@ -4,18 +4,18 @@ use Rattle.rules.proofs.Common.{ℕ, ◌<◌, Bool, true, false, List, ◌≡◌
 use native.Mathlib.Omega.{arith}
 use Rattle.rules.specs.F32.{◌⊗◌, at, f32, one}
 use Rattle.rules.proofs.Loops.{kept}
-use Rattle.pitch_search.specs.Best.{Search, searched, startNorm, considered, slid, pitchStep, best, bestOf}
+use Rattle.pitch_search.specs.Best.{Search, searched, start_norm, considered, slid, pitch_step, best, best_of}
 use Rattle.pitch_search.specs.Best.{first_of, second_of}
 use Rattle.pitch_search.specs.Laws.{FirstIsTried, SecondIsTried, FirstOfNone}
 
 -- below n, and the second where there are two
 abbrev Below : ℕ → Search → Type 0
-Below n b = (b.bestPitch < n) × (1 < n → b.secondBestPitch < n)
+Below n b = (b.best_pitch < n) × (1 < n → b.second_best_pitch < n)
 
 -- by the three tests of `considered`
 tested : (n : ℕ) (corr : Float) (i : ℕ) (b : Search) → i < n → Below n b → (x y z : Bool) → lt (f32 0) corr ≡ x
-    → lt (b.secondBestNum ⊗ b.ySqNorm) (corr ⊗ corr ⊗ b.secondBestDen) ≡ y
-    → lt (b.bestNum ⊗ b.ySqNorm) (corr ⊗ corr ⊗ b.bestDen) ≡ z → Below n (considered corr i b)
+    → lt (b.second_best_num ⊗ b.y_sq_norm) (corr ⊗ corr ⊗ b.second_best_den) ≡ y
+    → lt (b.best_num ⊗ b.y_sq_norm) (corr ⊗ corr ⊗ b.best_den) ≡ z → Below n (considered corr i b)
 unfolding considered
 tested n corr i b h p false y z e f g = rw e p
 tested n corr i b h p true false z e f g = rw (e, f) p
@@ -27,11 +27,11 @@ unfolding considered
 passed corr i b e = rw e
 
 both_below : (xcorr ys : List Float) (len : ℕ) → 0 < length xcorr → let n = length xcorr in
-    (first_of (bestOf xcorr ys len) < n) × (1 < n → second_of (bestOf xcorr ys len) < n)
+    (first_of (best_of xcorr ys len) < n) × (1 < n → second_of (best_of xcorr ys len) < n)
 unfolding best slid
 both_below xcorr ys len h =
-    kept (pitchStep xcorr ys len) (Below (length xcorr)) (length xcorr)
-    (searched (neg one) (neg one) (f32 0) (f32 0) 0 1 (startNorm ys len))
+    kept (pitch_step xcorr ys len) (Below (length xcorr)) (length xcorr)
+    (searched (neg one) (neg one) (f32 0) (f32 0) 0 1 (start_norm ys len))
     (λ i b room p. tested (length xcorr) (at xcorr i) i b room p _ _ _ refl refl refl) (h, λ two. two)
 
 pub first_below : FirstIsTried
@@ -40,9 +40,9 @@ first_below xcorr ys len h = (both_below xcorr ys len h).0
 pub second_below : SecondIsTried
 second_below xcorr ys len h = (both_below xcorr ys len (omega arith)).1 h
 
-pub first-none : FirstOfNone
+pub first_none : FirstOfNone
 unfolding best slid
-first-none xcorr ys len none =
-    kept (pitchStep xcorr ys len) (λ b. b.bestPitch ≡ 0) (length xcorr)
-    (searched (neg one) (neg one) (f32 0) (f32 0) 0 1 (startNorm ys len))
-    (λ i b room p. ap (λ (s : Search). s.bestPitch) (passed (at xcorr i) i b (none i room)) ∙ p) refl
+first_none xcorr ys len none =
+    kept (pitch_step xcorr ys len) (λ b. b.best_pitch ≡ 0) (length xcorr)
+    (searched (neg one) (neg one) (f32 0) (f32 0) 0 1 (start_norm ys len))
+    (λ i b room p. ap (λ (s : Search). s.best_pitch) (passed (at xcorr i) i b (none i room)) ∙ p) refl

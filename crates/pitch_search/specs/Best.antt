@@ -9,78 +9,78 @@ use Rattle.pitch_search.specs.declared.Pitches.{Pitches}
 -- the energy of the numbers that it was taken of.
 pub record Search : Type 0 where
   -- The best lag's squared correlation.
-  pub bestNum : Float
+  pub best_num : Float
   -- The second best lag's.
-  pub secondBestNum : Float
+  pub second_best_num : Float
   -- The best lag's energy.
-  pub bestDen : Float
+  pub best_den : Float
   -- The second best lag's.
-  pub secondBestDen : Float
+  pub second_best_den : Float
   -- The best lag.
-  pub bestPitch : ℕ
+  pub best_pitch : ℕ
   -- The second best lag.
-  pub secondBestPitch : ℕ
+  pub second_best_pitch : ℕ
   -- The energy at the lag that comes next.
-  pub ySqNorm : Float
+  pub y_sq_norm : Float
 
 -- The same from its seven values.
 abbrev pub searched : Float → Float → Float → Float → ℕ → ℕ → Float → Search
 searched bn sn bd sd bp sp norm =
     record {
-      bestNum = bn;
-      secondBestNum = sn;
-      bestDen = bd;
-      secondBestDen = sd;
-      bestPitch = bp;
-      secondBestPitch = sp;
-      ySqNorm = norm;
+      best_num = bn;
+      second_best_num = sn;
+      best_den = bd;
+      second_best_den = sd;
+      best_pitch = bp;
+      second_best_pitch = sp;
+      y_sq_norm = norm;
     }
 
 -- Rust: y_sq_norm += y * y, for the numbers of ys[0..len].
-abbrev pub normStep : List Float → ℕ → Float → Float
-normStep ys i norm = norm ⊕ at ys i ⊗ at ys i
+abbrev pub norm_step : List Float → ℕ → Float → Float
+norm_step ys i norm = norm ⊕ at ys i ⊗ at ys i
 
 -- The energy at lag 0, which starts from 1.0.
-abbrev pub startNorm : List Float → ℕ → Float
-startNorm ys len = loop len (normStep ys) one
+abbrev pub start_norm : List Float → ℕ → Float
+start_norm ys len = loop len (norm_step ys) one
 
 -- Rust: if corr > 0.0 { .. }. Lag i becomes the best and the best becomes the second best; or lag i becomes the second
 -- best; or nothing changes.
 unfoldable pub considered : Float → ℕ → Search → Search
 considered corr i s =
     let num = corr ⊗ corr in
-    let norm = s.ySqNorm in
-    let isBest = searched num s.bestNum norm s.bestDen i s.bestPitch norm in
-    let isSecond = searched s.bestNum num s.bestDen norm s.bestPitch i norm in
+    let norm = s.y_sq_norm in
+    let isBest = searched num s.best_num norm s.best_den i s.best_pitch norm in
+    let isSecond = searched s.best_num num s.best_den norm s.best_pitch i norm in
     cond (lt (f32 0) corr)
-    (cond (lt (s.secondBestNum ⊗ norm) (num ⊗ s.secondBestDen))
-    (cond (lt (s.bestNum ⊗ norm) (num ⊗ s.bestDen)) isBest isSecond) s)
+    (cond (lt (s.second_best_num ⊗ norm) (num ⊗ s.second_best_den))
+    (cond (lt (s.best_num ⊗ norm) (num ⊗ s.best_den)) isBest isSecond) s)
     s
 
 -- The energy at the next lag. Rust: y_sq_norm += ys[i + len] * ys[i + len] - ys[i] * ys[i]; y_sq_norm =
 -- y_sq_norm.max(1.0).
 unfoldable pub slid : List Float → ℕ → ℕ → Search → Search
 slid ys len i s =
-    searched s.bestNum s.secondBestNum s.bestDen s.secondBestDen s.bestPitch s.secondBestPitch
-    (larger (s.ySqNorm ⊕ (at ys (i + len) ⊗ at ys (i + len) ⊖ at ys i ⊗ at ys i)) one)
+    searched s.best_num s.second_best_num s.best_den s.second_best_den s.best_pitch s.second_best_pitch
+    (larger (s.y_sq_norm ⊕ (at ys (i + len) ⊗ at ys (i + len) ⊖ at ys i ⊗ at ys i)) one)
 
 -- One turn of the loop.
-abbrev pub pitchStep : List Float → List Float → ℕ → ℕ → Search → Search
-pitchStep xcorr ys len i s = slid ys len i (considered (at xcorr i) i s)
+abbrev pub pitch_step : List Float → List Float → ℕ → ℕ → Search → Search
+pitch_step xcorr ys len i s = slid ys len i (considered (at xcorr i) i s)
 
 -- The whole loop, over a correlation for each lag.
 unfoldable pub best : List Float → List Float → ℕ → Search
 best xcorr ys len =
-    loop (length xcorr) (pitchStep xcorr ys len) (searched (neg one) (neg one) (f32 0) (f32 0) 0 1 (startNorm ys len))
+    loop (length xcorr) (pitch_step xcorr ys len) (searched (neg one) (neg one) (f32 0) (f32 0) 0 1 (start_norm ys len))
 
 -- Rust: (best_pitch, second_best_pitch).
-abbrev pub bestOf : List Float → List Float → ℕ → Pitches
-bestOf xcorr ys len = let s = best xcorr ys len in Pitches.Best s.bestPitch s.secondBestPitch
+abbrev pub best_of : List Float → List Float → ℕ → Pitches
+best_of xcorr ys len = let s = best xcorr ys len in Pitches.Best s.best_pitch s.second_best_pitch
 
 -- The number that a call returns: 0, or the number of the refusal.
-abbrev pub pitchesNumber : Pitches → ℕ
-pitchesNumber (Pitches.Best p q) = 0
-pitchesNumber (Pitches.Refused n) = n
+abbrev pub pitches_number : Pitches → ℕ
+pitches_number (Pitches.Best p q) = 0
+pitches_number (Pitches.Refused n) = n
 
 -- The best lag in an answer, or 0 if it was refused.
 abbrev pub first_of : Pitches → ℕ

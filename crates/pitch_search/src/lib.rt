@@ -2,15 +2,15 @@
 // with 5 exactly if its lengths do not fit; its core does the work.
 ghost use Rattle.std.specs.Prelude.{◌≡◌, ◌+◌, ◌<◌, ◌≤◌, length};
 ghost use Rattle.rules.specs.Leaf.{Leaf};
-ghost use Rattle.pitch_search.specs.Best.{startNorm, considered, slid, best, bestOf, pitchesNumber, first_of};
+ghost use Rattle.pitch_search.specs.Best.{start_norm, considered, slid, best, best_of, pitches_number, first_of};
 ghost use Rattle.pitch_search.specs.Best.{second_of, BestFits};
-ghost use Rattle.pitch_search.specs.Inner.{innerProd, productNumber, sum_of, InnerFits};
-ghost use Rattle.pitch_search.specs.Private.{searchIn};
+ghost use Rattle.pitch_search.specs.Inner.{inner_prod, product_number, sum_of, InnerFits};
+ghost use Rattle.pitch_search.specs.Private.{search_in};
 
 // `inner_prod` for lengths that fit.
 fn inner_prod_core(xs: &[f32], ys: &[f32], n: usize) -> f32
     requires { InnerFits (length xs.now) (length ys.now) n }
-    ensures { result ≡ innerProd xs.now ys.now n }
+    ensures { result ≡ inner_prod xs.now ys.now n }
 {
     let mut sum0 = 0.0f32;
     let mut sum1 = 0.0f32;
@@ -42,7 +42,7 @@ pub enum Product {
 impl Product {
     // 0, or the number of the refusal.
     pub fn number(self) -> u32
-        ensures { result ≡ productNumber self }
+        ensures { result ≡ product_number self }
     {
         match self {
             Product::Sum(_) => 0,
@@ -64,7 +64,7 @@ impl Product {
 // The inner product of xs[..n] and ys[..n].
 pub fn inner_prod(xs: &[f32], ys: &[f32], n: usize) -> Product
     ensures { Leaf (InnerFits (length xs.now) (length ys.now) n)
-        result (Product.Sum (innerProd xs.now ys.now n)) (Product.Refused 5) }
+        result (Product.Sum (inner_prod xs.now ys.now n)) (Product.Refused 5) }
 {
     if xs.len() < n {
         return Product::Refused(5);
@@ -78,7 +78,7 @@ pub fn inner_prod(xs: &[f32], ys: &[f32], n: usize) -> Product
 // The energy at lag 0: 1.0 and the squares of ys[..len].
 fn norm(ys: &[f32], len: usize) -> f32
     requires { len ≤ length ys.now }
-    ensures { result ≡ startNorm ys.now len }
+    ensures { result ≡ start_norm ys.now len }
 {
     let mut sum = 1.0f32;
     for i in 0..len {
@@ -108,7 +108,7 @@ struct Best {
 
 // Lag i becomes the best, the second best, or neither.
 fn consider_lag(b: Best, corr: f32, i: usize) -> Best
-    ensures { searchIn result ≡ considered corr i (searchIn b) }
+    ensures { search_in result ≡ considered corr i (search_in b) }
 {
     if corr > 0.0 {
         let num = corr * corr;
@@ -141,7 +141,7 @@ fn consider_lag(b: Best, corr: f32, i: usize) -> Best
 // The energy at the lag after i.
 fn slide_norm(b: Best, ys: &[f32], i: usize, len: usize) -> Best
     requires { i + len < length ys.now }
-    ensures { searchIn result ≡ slid ys.now len i (searchIn b) }
+    ensures { search_in result ≡ slid ys.now len i (search_in b) }
 {
     let mut next = b;
     next.y_sq_norm = numbers::max(
@@ -154,7 +154,7 @@ fn slide_norm(b: Best, ys: &[f32], i: usize, len: usize) -> Best
 // `find_best_pitch` for lengths that fit.
 fn find_best_pitch_core(xcorr: &[f32], ys: &[f32], len: usize) -> Best
     requires { BestFits (length xcorr.now) (length ys.now) len }
-    ensures { searchIn result ≡ best xcorr.now ys.now len }
+    ensures { search_in result ≡ best xcorr.now ys.now len }
 {
     let mut b = Best {
         best_num: -1.0,
@@ -183,7 +183,7 @@ pub enum Pitches {
 impl Pitches {
     // 0, or the number of the refusal.
     pub fn number(self) -> u32
-        ensures { result ≡ pitchesNumber self }
+        ensures { result ≡ pitches_number self }
     {
         match self {
             Pitches::Best(_, _) => 0,
@@ -215,7 +215,7 @@ impl Pitches {
 // The two lags with the largest normalised correlations.
 pub fn find_best_pitch(xcorr: &[f32], ys: &[f32], len: usize) -> Pitches
     ensures { Leaf (BestFits (length xcorr.now) (length ys.now) len)
-        result (bestOf xcorr.now ys.now len) (Pitches.Refused 5) }
+        result (best_of xcorr.now ys.now len) (Pitches.Refused 5) }
 {
     if ys.len() < len {
         return Pitches::Refused(5);

@@ -2,8 +2,8 @@
 use Rattle.rules.specs.Common.{ℕ, ◌+◌, ◌-◌, ◌/◌, ◌%◌, ◌^◌, min, ◌≤◌, ◌<◌, true, List, ◌≡◌, length}
 use Rattle.rules.specs.Lists.{sum}
 use Rattle.checksum.specs.Checksum.{crc32}
-use Rattle.recording.specs.Verdict.{isSize}
-use Rattle.recorder.specs.Recorder.{skipOf, roomOf, start_of, LONGEST, FRAMES}
+use Rattle.recording.specs.Verdict.{is_size}
+use Rattle.recorder.specs.Recorder.{skip_of, room_of, start_of, LONGEST, FRAMES}
 use Rattle.recorder.specs.declared.Recorder.{Recorder}
 use Rattle.recorder.specs.declared.Part.{Part}
 
@@ -11,18 +11,18 @@ use Rattle.recorder.specs.declared.Part.{Part}
 abbrev pub part_of : Recorder → ℕ → ℕ → Part
 part_of r taken bytes = let start = start_of r bytes in record {
   start = start;
-  size = min (roomOf r taken) (bytes -
+  size = min (room_of r taken) (bytes -
       start);
 }
 
 pub record Found (r : Recorder) (taken bytes : ℕ) (part : Part) : Type 0 where
   pub is : part ≡ part_of r taken bytes
   pub inside : part.start + part.size ≤ bytes
-  pub room : part.size ≤ roomOf r taken
+  pub room : part.size ≤ room_of r taken
 
 -- with these bytes of audio
-abbrev pub withAudio : Recorder → ℕ → List ℕ → List ℕ → Recorder
-withAudio r taken audio records = record {
+abbrev pub with_audio : Recorder → ℕ → List ℕ → List ℕ → Recorder
+with_audio r taken audio records = record {
   front = r.front;
   taken = r.taken + taken;
   size = r.size + length audio;
@@ -42,5 +42,5 @@ pub record Closes (r : Recorder) (head chunk trailer : ℕ) : Type 0 where
   pub front : head ≡ 76
   pub between : chunk ≡ 32
   pub last : trailer ≡ 16
-  pub sized : isSize r.size ≡ true
+  pub sized : is_size r.size ≡ true
   pub few : r.count ≤ 536870911

@@ -7,9 +7,9 @@ use Rattle.rules.specs.Lists.{sum}
 use Rattle.rules.specs.Refusals.{Row, ◌when◌, wrong}
 use Rattle.checksum.specs.Checksum.{crc32}
 use Rattle.sides.specs.Sides.{number_of}
-use Rattle.sheet.specs.End.{fromFour, goodRecord}
-use Rattle.recording.specs.Recording.{framesOf}
-use Rattle.recording.specs.Verdict.{isSize}
+use Rattle.sheet.specs.End.{from_four, good_record}
+use Rattle.recording.specs.Recording.{frames_of}
+use Rattle.recording.specs.Verdict.{is_size}
 use Rattle.recording.specs.declared.Front.{Front}
 use Rattle.recorder.specs.declared.Recorder.{Recorder}
 
@@ -20,40 +20,40 @@ beginning f = record { front = f; taken = 0; size = 0; crc = 0; count = 0; sum =
 -- ---- which bytes belong to it
 
 -- the number of the next frame, before it is cut to 32 bits
-abbrev pub nextFrame : Recorder → ℕ
-nextFrame r = r.front.first + r.count
+abbrev pub next_frame : Recorder → ℕ
+next_frame r = r.front.first + r.count
 
 -- the first frame after an opening, number 0, gives no audio: its 480 samples, of two bytes each, are dropped
-abbrev pub skipOf : Recorder → ℕ
-skipOf r = cond (eqb (nextFrame r) 0) 960 0
+abbrev pub skip_of : Recorder → ℕ
+skip_of r = cond (eqb (next_frame r) 0) 960 0
 
 -- how many bytes there still can be, if so many more samples were taken in: two for each sample
-abbrev pub roomOf : Recorder → ℕ → ℕ
-roomOf r taken = 2 * (r.taken + taken) - r.size
+abbrev pub room_of : Recorder → ℕ → ℕ
+room_of r taken = 2 * (r.taken + taken) - r.size
 
 -- of the bytes that a feed gave, those that belong to the recording
 unfoldable pub belonging : Recorder → ℕ → List ℕ → List ℕ
-belonging r taken cleaned = take (roomOf r taken) (drop (skipOf r) cleaned)
+belonging r taken cleaned = take (room_of r taken) (drop (skip_of r) cleaned)
 
 -- where they begin, in so many bytes
 abbrev pub start_of : Recorder → ℕ → ℕ
-start_of r bytes = min (skipOf r) bytes
+start_of r bytes = min (skip_of r) bytes
 
 -- ---- its records
 
 -- these bytes begin with the record of a frame with this number, of this side
-unfoldable pub isRecord : ℕ → ℕ → List ℕ → Bool
-isRecord side number s = eqb (fromFour s) (number % 4294967296) && goodRecord side s
+unfoldable pub is_record : ℕ → ℕ → List ℕ → Bool
+is_record side number s = eqb (from_four s) (number % 4294967296) && good_record side s
 
 -- and so do n records in a row, numbered on
-unfoldable pub areRecords : ℕ → ℕ → ℕ → List ℕ → Bool
-areRecords side number zero s = true
-areRecords side number (suc n) s = isRecord side number s && areRecords side (number + 1) n (drop 8 s)
+unfoldable pub are_records : ℕ → ℕ → ℕ → List ℕ → Bool
+are_records side number zero s = true
+are_records side number (suc n) s = is_record side number s && are_records side (number + 1) n (drop 8 s)
 
 -- ---- with what one feed gave
 
-unfoldable pub withFeed : Recorder → ℕ → List ℕ → List ℕ → Recorder
-withFeed r taken cleaned records =
+unfoldable pub with_feed : Recorder → ℕ → List ℕ → List ℕ → Recorder
+with_feed r taken cleaned records =
     let audio = belonging r taken cleaned in
     record {
       front = r.front;
@@ -71,38 +71,38 @@ LONGEST = 2129735520
 abbrev pub FRAMES : ℕ
 FRAMES = 4436950
 
-abbrev pub tooLong : Recorder → ℕ → ℕ → Bool
-tooLong r taken n = ltb LONGEST (r.taken + taken) || ltb FRAMES (r.count + n)
+abbrev pub too_long : Recorder → ℕ → ℕ → Bool
+too_long r taken n = ltb LONGEST (r.taken + taken) || ltb FRAMES (r.count + n)
 
 -- what refuses it: a feed gives a record of 8 bytes and 960 bytes of audio for each frame; the recording would be too
 -- long; these are not the records of the next frames
-abbrev pub moreRows : Recorder → ℕ → List ℕ → List ℕ → List Row
-moreRows r taken cleaned records =
+abbrev pub more_rows : Recorder → ℕ → List ℕ → List ℕ → List Row
+more_rows r taken cleaned records =
     let n = length records / 8 in
     5 when wrong ((length records, 8 * n) ∷ (length cleaned, 960 * n) ∷ [])
-    ∷ 67 when tooLong r taken n
-    ∷ 68 when not (areRecords (number_of r.front.side) (nextFrame r) n records)
+    ∷ 67 when too_long r taken n
+    ∷ 68 when not (are_records (number_of r.front.side) (next_frame r) n records)
     ∷ []
 
 -- ---- its end
 
 -- how many samples of silence the bench must still be fed, so that all that was taken in comes out: a frame's samples
 -- come out with the next frame
-abbrev pub closingOf : Recorder → ℕ
-closingOf r = cond (eqb r.taken 0) 0 (480 * ((r.taken + 479) / 480 + 1) - r.taken)
+abbrev pub closing_of : Recorder → ℕ
+closing_of r = cond (eqb r.taken 0) 0 (480 * ((r.taken + 479) / 480 + 1) - r.taken)
 
 -- what refuses to close it: it has no audio, or not as many frames as its audio takes
-abbrev pub closeRows : Recorder → List Row
-closeRows r = 69 when not (isSize r.size) ∷ 70 when not (eqb r.count (framesOf r.front.first r.size)) ∷ []
+abbrev pub close_rows : Recorder → List Row
+close_rows r = 69 when not (is_size r.size) ∷ 70 when not (eqb r.count (frames_of r.front.first r.size)) ∷ []
 
 -- the bench goes on in the next recording, with the next frame. What was taken in and is not yet written belongs to
 -- that one
-abbrev pub nextFirst : Recorder → ℕ
-nextFirst r = nextFrame r % 4294967296
+abbrev pub next_first : Recorder → ℕ
+next_first r = next_frame r % 4294967296
 
 unfoldable pub following : Recorder → ℕ → Recorder
 following r began = record {
-  front = record { side = r.front.side; began = began; first = nextFirst r };
+  front = record { side = r.front.side; began = began; first = next_first r };
   taken = r.taken - r.size / 2;
   size = 0;
   crc = 0;
@@ -111,5 +111,5 @@ following r began = record {
 }
 
 -- what refuses that: it cannot be closed, it ends within a frame, or the next frame has number 0, which is an opening's
-abbrev pub nextRows : Recorder → List Row
-nextRows r = closeRows r ++ (71 when (not (eqb (r.size % 960) 0) || eqb (nextFirst r) 0) ∷ [])
+abbrev pub next_rows : Recorder → List Row
+next_rows r = close_rows r ++ (71 when (not (eqb (r.size % 960) 0) || eqb (next_first r) 0) ∷ [])

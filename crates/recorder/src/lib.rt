@@ -7,14 +7,14 @@ ghost use Rattle.std.specs.Prelude.{◌≡◌, ◌%◌, min, length};
 ghost use Rattle.rules.specs.Leaf.{◌leaving◌};
 ghost use Rattle.rules.specs.Refusals.{refusing};
 ghost use Rattle.sides.specs.Sides.{number_of};
-ghost use Rattle.sheet.specs.Sheet.{trailerOf};
-ghost use Rattle.recording.specs.Recording.{headFor, chunkFor};
-ghost use Rattle.recording.specs.Numbers.{sideAt};
-ghost use Rattle.recorder.specs.Recorder.{beginning, skipOf, roomOf, tooLong, moreRows, closingOf, closeRows};
-ghost use Rattle.recorder.specs.Recorder.{nextFirst, following, nextRows};
-ghost use Rattle.recorder.specs.Numbers.{recorderIn, recorderNumbers, begunLaid, moreLaid, closingLaid, nextLaid};
-ghost use Rattle.recorder.specs.Numbers.{finishLaid};
-ghost use Rattle.recorder.specs.Private.{Found, withAudio, Within, Closes};
+ghost use Rattle.sheet.specs.Sheet.{trailer_of};
+ghost use Rattle.recording.specs.Recording.{head_for, chunk_for};
+ghost use Rattle.recording.specs.Numbers.{side_at};
+ghost use Rattle.recorder.specs.Recorder.{beginning, skip_of, room_of, too_long, more_rows, closing_of, close_rows};
+ghost use Rattle.recorder.specs.Recorder.{next_first, following, next_rows};
+ghost use Rattle.recorder.specs.Numbers.{recorder_in, recorder_numbers, begun_laid, more_laid, closing_laid, next_laid};
+ghost use Rattle.recorder.specs.Numbers.{finish_laid};
+ghost use Rattle.recorder.specs.Private.{Found, with_audio, Within, Closes};
 
 use recording::Front;
 use sides::{Meant, Side};
@@ -50,14 +50,14 @@ fn word(number: u64) -> u32
 }
 
 fn side_at(number: u64) -> Side
-    ensures { result ≡ sideAt number }
+    ensures { result ≡ side_at number }
 {
     if number == 0 { Side::Left } else { Side::Right }
 }
 
 fn recorder_in(numbers: &[u64]) -> Recorder
     requires { length numbers.now ≡ 8 }
-    ensures { result ≡ recorderIn numbers.now }
+    ensures { result ≡ recorder_in numbers.now }
 {
     let front = Front {
         side: side_at(numbers[0]),
@@ -76,7 +76,7 @@ fn recorder_in(numbers: &[u64]) -> Recorder
 
 fn put(numbers: &mut [u64], recorder: Recorder)
     requires { length numbers.old ≡ 8 }
-    ensures { numbers.new ≡ recorderNumbers recorder }
+    ensures { numbers.new ≡ recorder_numbers recorder }
 {
     let front = recorder.front;
     let side = front.side;
@@ -107,7 +107,7 @@ fn begun(front: Front) -> Recorder
 
 // A recording of a side begins. Another length than eight is refused with 5, and a number that means no side with 53.
 pub fn begin(numbers: &mut [u64], side: u32, began: u64, first: u32) -> u32
-    ensures { (result leaving (λ x. x.now) numbers.exit) ≡ begunLaid side began first numbers.old }
+    ensures { (result leaving numbers.new) ≡ begun_laid side began first numbers.old }
 {
     if numbers.len() != 8 {
         return 5;
@@ -132,7 +132,7 @@ pub fn begin(numbers: &mut [u64], side: u32, began: u64, first: u32) -> u32
 
 // How many bytes in front do not belong to the recording.
 fn skip_of(recorder: Recorder) -> usize
-    ensures { result ≡ skipOf recorder }
+    ensures { result ≡ skip_of recorder }
 {
     if recorder.front.first != 0 {
         return 0;
@@ -145,7 +145,7 @@ fn skip_of(recorder: Recorder) -> usize
 
 // How many bytes of audio there still can be.
 fn room_of(recorder: Recorder, taken: u32) -> usize
-    ensures { result ≡ roomOf recorder taken }
+    ensures { result ≡ room_of recorder taken }
 {
     let most = 2 * (recorder.taken as usize + taken as usize);
     let size = recorder.size as usize;
@@ -174,7 +174,7 @@ fn part_of(recorder: Recorder, taken: u32, bytes: usize) -> Part
 
 // Whether the recording would be longer than a recording can be.
 fn is_too_long(recorder: Recorder, taken: u32, frames: usize) -> bool
-    ensures { result ≡ tooLong recorder taken frames }
+    ensures { result ≡ too_long recorder taken frames }
 {
     if 2129735520 < recorder.taken as u64 + taken as u64 {
         return true;
@@ -187,7 +187,7 @@ fn is_too_long(recorder: Recorder, taken: u32, frames: usize) -> bool
 
 // What refuses a feed's bytes and records; 0 if nothing does.
 fn refusal(recorder: Recorder, taken: u32, cleaned: &[u8], records: &[u8]) -> u32
-    ensures { result ≡ refusing (moreRows recorder taken cleaned.now records.now) (λ n. n) 0 }
+    ensures { result ≡ refusing (more_rows recorder taken cleaned.now records.now) (λ n. n) 0 }
 {
     let frames = records.len() / 8;
     if records.len() % 8 != 0 {
@@ -214,7 +214,7 @@ fn refusal(recorder: Recorder, taken: u32, cleaned: &[u8], records: &[u8]) -> u3
 // With these bytes of audio, and these records.
 fn recorded(recorder: Recorder, taken: u32, audio: &[u8], records: &[u8]) -> Recorder
     requires { Within recorder taken (length audio.now) (length records.now) }
-    ensures { result ≡ withAudio recorder taken audio.now records.now }
+    ensures { result ≡ with_audio recorder taken audio.now records.now }
 {
     let front = recorder.front;
     let passed = recorder.sum as u64 + records::total(records);
@@ -237,8 +237,8 @@ pub fn more(
     cleaned: &[u8],
     records: &[u8],
 ) -> u32
-    ensures { (result leaving (λ x. x.now) numbers.exit leaving (λ x. x.now) part.exit)
-        ≡ moreLaid taken cleaned.now records.now numbers.old part.old }
+    ensures { (result leaving numbers.new leaving part.new)
+        ≡ more_laid taken cleaned.now records.now numbers.old part.old }
 {
     if numbers.len() != 8 {
         return 5;
@@ -267,7 +267,7 @@ pub fn more(
 // ---- its end
 
 fn closing_of(recorder: Recorder) -> u64
-    ensures { result ≡ closingOf recorder }
+    ensures { result ≡ closing_of recorder }
 {
     let taken = recorder.taken as u64;
     if taken == 0 {
@@ -278,7 +278,7 @@ fn closing_of(recorder: Recorder) -> u64
 
 // How many samples of silence the bench must still be fed, so that all that was taken in comes out.
 pub fn closing(silence: &mut [u64], numbers: &[u64]) -> u32
-    ensures { (result leaving (λ x. x.now) silence.exit) ≡ closingLaid numbers.now silence.old }
+    ensures { (result leaving silence.new) ≡ closing_laid numbers.now silence.old }
 {
     if silence.len() != 1 {
         return 5;
@@ -292,7 +292,7 @@ pub fn closing(silence: &mut [u64], numbers: &[u64]) -> u32
 
 // What refuses to close it; 0 if nothing does.
 fn close_refusal(recorder: Recorder) -> u32
-    ensures { result ≡ refusing (closeRows recorder) (λ n. n) 0 }
+    ensures { result ≡ refusing (close_rows recorder) (λ n. n) 0 }
 {
     if !recording::is_size(recorder.size) {
         return 69;
@@ -304,14 +304,14 @@ fn close_refusal(recorder: Recorder) -> u32
 }
 
 fn next_first(recorder: Recorder) -> u32
-    ensures { result ≡ nextFirst recorder }
+    ensures { result ≡ next_first recorder }
 {
     word(recorder.front.first as u64 + recorder.count as u64)
 }
 
 // What refuses to go on in a next recording; 0 if nothing does.
 fn next_refusal(recorder: Recorder) -> u32
-    ensures { result ≡ refusing (nextRows recorder) (λ n. n) 0 }
+    ensures { result ≡ refusing (next_rows recorder) (λ n. n) 0 }
 {
     let refused = close_refusal(recorder);
     if refused != 0 {
@@ -352,7 +352,7 @@ fn following(recorder: Recorder, began: u64) -> Recorder
 
 // The recording ends after a frame, and the bench goes on in the next one.
 pub fn next(numbers: &mut [u64], began: u64) -> u32
-    ensures { (result leaving (λ x. x.now) numbers.exit) ≡ nextLaid began numbers.old }
+    ensures { (result leaving numbers.new) ≡ next_laid began numbers.old }
 {
     if numbers.len() != 8 {
         return 5;
@@ -369,9 +369,9 @@ pub fn next(numbers: &mut [u64], began: u64) -> u32
 // The head, what is between the audio and the records, and the trailer.
 fn lay(head: &mut [u8], chunk: &mut [u8], trailer: &mut [u8], recorder: Recorder)
     requires { Closes recorder (length head.old) (length chunk.old) (length trailer.old) }
-    ensures { (head.new ≡ headFor recorder.front recorder.size)
-        × (chunk.new ≡ chunkFor recorder.front recorder.size recorder.crc)
-        × (trailer.new ≡ trailerOf recorder.count (number_of recorder.front.side) recorder.sum) }
+    ensures { (head.new ≡ head_for recorder.front recorder.size)
+        × (chunk.new ≡ chunk_for recorder.front recorder.size recorder.crc)
+        × (trailer.new ≡ trailer_of recorder.count (number_of recorder.front.side) recorder.sum) }
 {
     let front = recorder.front;
     let side = front.side;
@@ -384,8 +384,8 @@ fn lay(head: &mut [u8], chunk: &mut [u8], trailer: &mut [u8], recorder: Recorder
 // The end of the recording: its head of 76 bytes, the 32 bytes between the audio and the records, and its trailer of 16
 // bytes.
 pub fn finish(head: &mut [u8], chunk: &mut [u8], trailer: &mut [u8], numbers: &[u64]) -> u32
-    ensures { (result leaving (λ x. x.now) head.exit leaving (λ x. x.now) chunk.exit leaving (λ x. x.now) trailer.exit)
-        ≡ finishLaid numbers.now head.old chunk.old trailer.old }
+    ensures { (result leaving head.new leaving chunk.new leaving trailer.new)
+        ≡ finish_laid numbers.now head.old chunk.old trailer.old }
 {
     if numbers.len() != 8 {
         return 5;

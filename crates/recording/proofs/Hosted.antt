@@ -7,63 +7,63 @@ use Rattle.rules.specs.Leaf.{◌leaving◌}
 use Rattle.rules.specs.Lists.{sum, Bytes}
 use Rattle.checksum.specs.Checksum.{crc32}
 use Rattle.sides.specs.Sides.{number_of}
-use Rattle.sheet.specs.Sheet.{recordsOf, trailerOf}
+use Rattle.sheet.specs.Sheet.{records_of, trailer_of}
 use Rattle.sheet.specs.Laws.{together}
-use Rattle.recording.specs.Recording.{Recording, framesOf, entriesFrom, headFor, chunkFor, recordingBytes, Good}
-use Rattle.recording.specs.Verdict.{sizeIn, framesIn, behind, recordsFrom, trailerIn, saidBy, begins, isSize}
-use Rattle.recording.specs.Verdict.{howMany, fileFaults, verdictOf}
-use Rattle.recording.specs.Judge.{fed, begin, tellOf}
-use Rattle.recording.specs.Numbers.{judgeIn, judgeNumbers, judgeLaid, toldIn, verdictLaid}
-use Rattle.recording.specs.Laws.{afterCalls, AllBytes, Is, heldAfter, hostTold, JudgeBuffers, toldOf, HostAll}
+use Rattle.recording.specs.Recording.{Recording, frames_of, entries_from, head_for, chunk_for, recording_bytes, Good}
+use Rattle.recording.specs.Verdict.{size_in, frames_in, behind, records_from, trailer_in, said_by, begins, is_size}
+use Rattle.recording.specs.Verdict.{how_many, file_faults, verdict_of}
+use Rattle.recording.specs.Judge.{fed, begin, tell_of}
+use Rattle.recording.specs.Numbers.{judge_in, judge_numbers, judge_laid, told_in, verdict_laid}
+use Rattle.recording.specs.Laws.{after_calls, AllBytes, Is, held_after, host_told, JudgeBuffers, told_of, HostAll}
 use Rattle.recording.specs.Laws.{Accepted, HostOnly}
 use Rattle.recording.specs.declared.Front.{Front}
 use Rattle.recording.specs.declared.Judge.{Judge}
 use Rattle.recording.specs.declared.Verdict.{Verdict}
 use Rattle.recording.specs.declared.Verdict.TheVariants.{Told, Not}
 use Rattle.recording.proofs.InNumbers.{laid_done}
-use Rattle.recording.proofs.Told.{told-all, told-only}
-use Rattle.recording.proofs.Calls.{Fits, kept, begun-fits, run_fits, calls-told}
+use Rattle.recording.proofs.Told.{told_all, told_only}
+use Rattle.recording.proofs.Calls.{Fits, kept, begun_fits, run_fits, calls_told}
 
 -- a judge laid into buffers of the right lengths
 laid : (j : Judge) (ns held : List ℕ) → length ns ≡ 11 → length held ≡ 76
-    → judgeLaid j ns held ≡ (0 leaving judgeNumbers j leaving j.held)
+    → judge_laid j ns held ≡ (0 leaving judge_numbers j leaving j.held)
 laid j ns held n h = sym (laid_done j ns held n h refl refl refl)
 
-on-held : (j : Judge) (parts : List (List ℕ)) → Fits j → AllBytes parts
-    → heldAfter (judgeNumbers j) j.held parts ≡ (judgeNumbers (afterCalls j parts), (afterCalls j parts).held)
-on-held j [] fits b = refl
-on-held j (bytes ∷ parts) fits b =
-    let k : Judge = fed (judgeIn (judgeNumbers j) j.held) bytes in
+on_held : (j : Judge) (parts : List (List ℕ)) → Fits j → AllBytes parts
+    → held_after (judge_numbers j) j.held parts ≡ (judge_numbers (after_calls j parts), (after_calls j parts).held)
+on_held j [] fits b = refl
+on_held j (bytes ∷ parts) fits b =
+    let k : Judge = fed (judge_in (judge_numbers j) j.held) bytes in
     let same : fed j bytes ≡ k = ap (λ (x : Judge). fed x bytes) (sym (kept j fits)) in
     let good : Fits k = subst Fits same (run_fits j bytes fits b.0) in
-    ap (λ (left : ℕ × (List ℕ × List ℕ)). heldAfter left.1.0 left.1.1 parts)
-    (laid k (judgeNumbers j) j.held refl fits.long)
-    ∙ on-held k parts good b.1
+    ap (λ (left : ℕ × (List ℕ × List ℕ)). held_after left.1.0 left.1.1 parts)
+    (laid k (judge_numbers j) j.held refl fits.long)
+    ∙ on_held k parts good b.1
 
 module _ (parts : List (List ℕ)) (ns held out : List ℕ) (lent : JudgeBuffers ns held out) (b : AllBytes parts) where
   abbrev j : Judge
-  j = afterCalls begin parts
+  j = after_calls begin parts
 
-  same-held : (let left = judgeLaid begin ns held in heldAfter left.1.0 left.1.1 parts)
-      ≡ (judgeNumbers j, j.held)
-  same-held =
-      ap (λ (left : ℕ × (List ℕ × List ℕ)). heldAfter left.1.0 left.1.1 parts)
+  same_held : (let left = judge_laid begin ns held in held_after left.1.0 left.1.1 parts)
+      ≡ (judge_numbers j, j.held)
+  same_held =
+      ap (λ (left : ℕ × (List ℕ × List ℕ)). held_after left.1.0 left.1.1 parts)
       (laid begin ns held lent.numbers lent.bytes)
-      ∙ on-held begin parts begun-fits b
+      ∙ on_held begin parts begun_fits b
 
-  asked : verdictLaid (judgeNumbers j) j.held out ≡ toldIn (tellOf (judgeIn (judgeNumbers j) j.held)) out
-  unfolding verdictLaid
-  asked = rw (eq-eqb (length out) 5 lent.places, eq-eqb (length j.held) 76 (calls-told parts b).0)
+  asked : verdict_laid (judge_numbers j) j.held out ≡ told_in (tell_of (judge_in (judge_numbers j) j.held)) out
+  unfolding verdict_laid
+  asked = rw (eq-eqb (length out) 5 lent.places, eq-eqb (length j.held) 76 (calls_told parts b).0)
 
-  host-told : hostTold ns held parts out ≡ toldIn (verdictOf (together parts)) out
-  host-told =
-      ap (λ (last : List ℕ × List ℕ). verdictLaid last.0 last.1 out) same-held
+  host_told_lem : host_told ns held parts out ≡ told_in (verdict_of (together parts)) out
+  host_told_lem =
+      ap (λ (last : List ℕ × List ℕ). verdict_laid last.0 last.1 out) same_held
       ∙ asked
-      ∙ ap (λ (v : Verdict). toldIn v out) (calls-told parts b).1
+      ∙ ap (λ (v : Verdict). told_in v out) (calls_told parts b).1
 
-pub host-all : HostAll
-host-all r parts ns held out good lent b e =
-    host-told parts ns held out lent b ∙ ap (λ (v : Verdict). toldIn v out) (ap verdictOf e ∙ told-all r good)
+pub host_all : HostAll
+host_all r parts ns held out good lent b e =
+    host_told_lem parts ns held out lent b ∙ ap (λ (v : Verdict). told_in v out) (ap verdict_of e ∙ told_all r good)
 
 -- no part has number 0
 none_is_zero : (t u v w x y : Bool) (f : Front) (n h : ℕ)
@@ -77,28 +77,28 @@ none_is_zero false false false false true y f n h e = absurd (let z : ◌≡◌ 
 none_is_zero false false false false false true f n h e = absurd (let z : ◌≡◌ {A = ℕ} 66 0 = cc in omega arith)
 none_is_zero false false false false false false f n h e = absurd (let z : ◌≡◌ {A = ℕ} 0 1 = cc in omega arith)
 
-not-zero : (file : List ℕ) → verdictOf file ≡ Not 0 → ⊥
-unfolding verdictOf fileFaults
-not-zero file e =
-    let size = sizeIn file in
-    let r = saidBy file in
+not_zero : (file : List ℕ) → verdict_of file ≡ Not 0 → ⊥
+unfolding verdict_of file_faults
+not_zero file e =
+    let size = size_in file in
+    let r = said_by file in
     let side = number_of r.front.side in
-    let rs = recordsOf side (entriesFrom r.front.first r.heard) in
+    let rs = records_of side (entries_from r.front.first r.heard) in
     none_is_zero
-    (not (isSize size && begins (headFor r.front size) file))
+    (not (is_size size && begins (head_for r.front size) file))
     (ltb (length (drop 76 file)) size)
-    (not (begins (chunkFor r.front size (crc32 0 r.audio)) (behind file)))
-    (not (begins rs (recordsFrom file)))
-    (not (begins (trailerOf (framesOf r.front.first size) side (sum rs)) (trailerIn file)))
-    (ltb 16 (length (trailerIn file)))
-    r.front (framesIn file) (howMany r.heard) e
+    (not (begins (chunk_for r.front size (crc32 0 r.audio)) (behind file)))
+    (not (begins rs (records_from file)))
+    (not (begins (trailer_of (frames_of r.front.first size) side (sum rs)) (trailer_in file)))
+    (ltb 16 (length (trailer_in file)))
+    r.front (frames_in file) (how_many r.heard) e
 
-by-verdict : (file out told : List ℕ) (v : Verdict) → Bytes file → verdictOf file ≡ v → (0 leaving told) ≡ toldIn v out
-    → Accepted file told (saidBy file)
-by-verdict file out told (Told f n h) b e a =
-    let is = told-only file f n h b (sym e) in
+by_verdict : (file out told : List ℕ) (v : Verdict) → Bytes file → verdict_of file ≡ v → (0 leaving told) ≡ told_in v out
+    → Accepted file told (said_by file)
+by_verdict file out told (Told f n h) b e a =
+    let is = told_only file f n h b (sym e) in
     let list : told ≡ number_of f.side ∷ f.began ∷ f.first ∷ n ∷ h ∷ [] = ap (λ (p : ℕ × List ℕ). p.1) a in
-    let r = saidBy file in
+    let r = said_by file in
     record {
       good = is.good;
       bytes = is.bytes;
@@ -108,11 +108,11 @@ by-verdict file out told (Told f n h) b e a =
           ∙ ap (λ (m : ℕ). number_of r.front.side ∷ r.front.began ∷ r.front.first ∷ length r.heard ∷ m ∷ [])
           is.counts;
     }
-by-verdict file out told (Not n) b e a =
-    let zero-it : 0 ≡ n = ap (λ (p : ℕ × List ℕ). p.0) a in
-    absurd (not-zero file (e ∙ ap Not (sym zero-it)))
+by_verdict file out told (Not n) b e a =
+    let zero_it : 0 ≡ n = ap (λ (p : ℕ × List ℕ). p.0) a in
+    absurd (not_zero file (e ∙ ap Not (sym zero_it)))
 
-pub host-only : HostOnly
-host-only parts ns held out told lent b bytes e =
-    by-verdict (together parts) out told (verdictOf (together parts)) bytes refl
-    (e ∙ host-told parts ns held out lent b)
+pub host_only : HostOnly
+host_only parts ns held out told lent b bytes e =
+    by_verdict (together parts) out told (verdict_of (together parts)) bytes refl
+    (e ∙ host_told_lem parts ns held out lent b)

@@ -22,9 +22,9 @@ pub leaves : {R A : Type 0} {r : R} {x y : A} → x ≡ y → (r leaving x) ≡ 
 leaves {A = A} {r = r} e = ap (λ (x : A). r leaving x) e
 
 -- of two buffers
-pub leave-both : {R A B : Type 0} {r : R} {x y : A} {u v : B} → x ≡ y → u ≡ v
+pub leave_both : {R A B : Type 0} {r : R} {x y : A} {u v : B} → x ≡ y → u ≡ v
     → (r leaving x leaving u) ≡ (r leaving y leaving v)
-leave-both e d = rw (e, d)
+leave_both e d = rw (e, d)
 
 module _ {O : Type 0} {Fits : Type 0} {new old : O} where
   -- a caller that shows that the lengths fit
@@ -64,9 +64,9 @@ module _ {A : Type 0} (refuse : ℕ → A) (right : A) where
   by_rows P (n when false ∷ rows) bad good = by_rows P rows bad (λ h. good (refl, h))
 
   -- where the answer is x, and that is no refusal, no test holds
-  pub passed-clear : {x : A} (rows : List Row) → ((n : ℕ) → x ≡ refuse n → ⊥) → x ≡ refusing rows refuse right
+  pub passed_clear : {x : A} (rows : List Row) → ((n : ℕ) → x ≡ refuse n → ⊥) → x ≡ refusing rows refuse right
       → Clear rows
-  passed-clear {x} rows bad = by_rows (λ y. x ≡ y → Clear rows) rows (λ n e. absurd (bad n e)) (λ c e. c)
+  passed_clear {x} rows bad = by_rows (λ y. x ≡ y → Clear rows) rows (λ n e. absurd (bad n e)) (λ c e. c)
 
 -- two tables of the same rows: what holds of both refusals of a row, and of what is right where no test holds, holds of
 -- the answers
@@ -79,10 +79,10 @@ module _ {A B : Type 0} (refuse : ℕ → A) (right : A) (refuse' : ℕ → B) (
   by_both R (n when false ∷ rows) bad good = by_both R rows bad (λ h. good (refl, h))
 
   -- where the one answers x, a refusal and not what is right, the other refuses with the same number
-  pub stopped-so : {x : A} {m : ℕ} (rows : List Row) → ((n : ℕ) → x ≡ refuse n → m ≡ n) → (x ≡ right → ⊥)
+  pub stopped_so : {x : A} {m : ℕ} (rows : List Row) → ((n : ℕ) → x ≡ refuse n → m ≡ n) → (x ≡ right → ⊥)
       → x ≡ refusing rows refuse right
       → refusing rows refuse' right' ≡ refuse' m
-  stopped-so {x} {m} rows same bad =
+  stopped_so {x} {m} rows same bad =
       by_both (λ a b. x ≡ a → b ≡ refuse' m) rows (λ n e. ap refuse' (sym (same n e))) (λ c e. absurd (bad e))
 
 -- and what the one gives goes over into what the other gives
@@ -98,10 +98,10 @@ Each P (n when t ∷ rows) = P n × Each P rows
 
 -- what holds of the refusal of each row, and of what is right, holds of the answer
 module _ {A : Type 0} (refuse : ℕ → A) (right : A) (P : A → Type 0) where
-  pub by-each : (rows : List Row) → Each (λ n. P (refuse n)) rows → P right → P (refusing rows refuse right)
-  by-each [] bad good = good
-  by-each (n when true ∷ rows) bad good = bad.0
-  by-each (n when false ∷ rows) bad good = by-each rows bad.1 good
+  pub by_each : (rows : List Row) → Each (λ n. P (refuse n)) rows → P right → P (refusing rows refuse right)
+  by_each [] bad good = good
+  by_each (n when true ∷ rows) bad good = bad.0
+  by_each (n when false ∷ rows) bad good = by_each rows bad.1 good
 
 -- its numbers are all above 0
 abbrev pub above : List Row → Bool
@@ -110,20 +110,20 @@ above (n when t ∷ rows) = ltb 0 n && above rows
 
 -- so, where the number of what it gives is 0, no test holds
 module _ {A : Type 0} (number : A → ℕ) (refuse : ℕ → A) (right : A) (told : (n : ℕ) → number (refuse n) ≡ n) where
-  pub none-held : (rows : List Row) → T (above rows) → number (refusing rows refuse right) ≡ 0 → Clear rows
-  none-held [] a e = tt
-  none-held (n when true ∷ rows) a e =
+  pub none_held : (rows : List Row) → T (above rows) → number (refusing rows refuse right) ≡ 0 → Clear rows
+  none_held [] a e = tt
+  none_held (n when true ∷ rows) a e =
       absurd (omega (arith, sym (told n) ∙ e, ltb→lt 0 n (and_l (ltb 0 n) (above rows) a)))
-  none-held (n when false ∷ rows) a e = (refl, none-held rows (and_r (ltb 0 n) (above rows) a) e)
+  none_held (n when false ∷ rows) a e = (refl, none_held rows (and_r (ltb 0 n) (above rows) a) e)
 
 -- asked for the number itself
 pub cleared : (rows : List Row) → T (above rows) → refusing rows (λ n. n) 0 ≡ 0 → Clear rows
-cleared = none-held (λ n. n) (λ n. n) 0 (λ n. refl)
+cleared = none_held (λ n. n) (λ n. n) 0 (λ n. refl)
 
 -- and where it is not 0, it is that of the refusal
 pub due : {A : Type 0} (refuse : ℕ → A) (right : A) (rows : List Row) {r : ℕ} → r ≡ refusing rows (λ n. n) 0
     → (r ≡ 0 → ⊥) → refusing rows refuse right ≡ refuse r
-due refuse right rows e some = stopped-so (λ n. n) 0 refuse right rows (λ n same. same) some e
+due refuse right rows e some = stopped_so (λ n. n) 0 refuse right rows (λ n same. same) some e
 
 -- ---- where no length is wrong
 
@@ -137,12 +137,12 @@ right (p ∷ ps) h =
     let n = neither (not (eqb p.0 p.1)) (wrong ps) h in
     (eqb-true p.0 p.1 (not-false (eqb p.0 p.1) n.0), right ps n.1)
 
-pub none-wrong : (ps : List (ℕ × ℕ)) → Right ps → wrong ps ≡ false
-none-wrong [] h = refl
-none-wrong (p ∷ ps) h = rw (eq-eqb p.0 p.1 h.0) (none-wrong ps h.1)
+pub none_wrong : (ps : List (ℕ × ℕ)) → Right ps → wrong ps ≡ false
+none_wrong [] h = refl
+none_wrong (p ∷ ps) h = rw (eq-eqb p.0 p.1 h.0) (none_wrong ps h.1)
 
-pub one-wrong : (ps : List (ℕ × ℕ)) → (Right ps → ⊥) → wrong ps ≡ true
-one-wrong ps h = by (wrong ps) refl
+pub one_wrong : (ps : List (ℕ × ℕ)) → (Right ps → ⊥) → wrong ps ≡ true
+one_wrong ps h = by (wrong ps) refl
   where
     by : (t : Bool) → wrong ps ≡ t → wrong ps ≡ true
     by true e = e

@@ -3,7 +3,7 @@ use Rattle.rules.proofs.Common.{ℕ, ◌+◌, ◌*◌, ◌/◌, ◌%◌, ◌<◌
 use native.Mathlib.Nat.{add-zero, div-div-eq-div-mul}
 use native.Mathlib.Omega.{arith}
 use Rattle.sheet.specs.Sheet.{four}
-use Rattle.sheet.specs.End.{fromFour}
+use Rattle.sheet.specs.End.{from_four}
 
 chain : (n q₁ q₂ q₃ q₄ r₀ r₁ r₂ r₃ : ℕ) → n ≡ 256 * q₁ + r₀ → q₁ ≡ 256 * q₂ + r₁ → q₂ ≡ 256 * q₃ + r₂
     → q₃ ≡ 256 * q₄ + r₃
@@ -26,15 +26,15 @@ low m n e = omega arith
 small : (n : ℕ) → n % 256 < 256
 small n = omega arith
 
-pub four-read : (n : ℕ) (rest : List ℕ) → fromFour (four n ++ rest) ≡ n % 4294967296
-unfolding fromFour four
-four-read n rest = low _ _ (digits n)
+pub four_read : (n : ℕ) (rest : List ℕ) → from_four (four n ++ rest) ≡ n % 4294967296
+unfolding from_four four
+four_read n rest = low _ _ (digits n)
 
 -- four bytes are those of their number, whatever is above it
 module _ (a b c d k : ℕ) (ha : a < 256) (hb : b < 256) (hc : c < 256) (hd : d < 256) where
-  pub four-of : four (a + 256 * b + 65536 * c + 16777216 * d + 4294967296 * k) ≡ a ∷ b ∷ c ∷ d ∷ []
+  pub four_of_lem : four (a + 256 * b + 65536 * c + 16777216 * d + 4294967296 * k) ≡ a ∷ b ∷ c ∷ d ∷ []
   unfolding four
-  four-of =
+  four_of_lem =
       let n = a + 256 * b + 65536 * c + 16777216 * d + 4294967296 * k in
       let q₁ = b + 256 * c + 65536 * d + 16777216 * k in
       let q₂ = c + 256 * d + 65536 * k in
@@ -52,9 +52,9 @@ module _ (a b c d k : ℕ) (ha : a < 256) (hb : b < 256) (hc : c < 256) (hd : d 
   pub above : (a + 256 * b + 65536 * c + 16777216 * d + 4294967296 * k) / 4294967296 ≡ k
   above = omega arith
 
-pub four-mod : (n : ℕ) → four (n % 4294967296) ≡ four n
+pub four_mod : (n : ℕ) → four (n % 4294967296) ≡ four n
 unfolding four
-four-mod n =
+four_mod n =
     let m = n % 256 + 256 * (n / 256 % 256) + 65536 * (n / 65536 % 256) + 16777216 * (n / 16777216 % 256) in
     ap four (sym (low m n (digits n)) ∙ sym (add-zero m))
-    ∙ four-of _ _ _ _ 0 (small n) (small (n / 256)) (small (n / 65536)) (small (n / 16777216))
+    ∙ four_of_lem _ _ _ _ 0 (small n) (small (n / 256)) (small (n / 65536)) (small (n / 16777216))

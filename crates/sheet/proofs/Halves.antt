@@ -8,12 +8,12 @@ use lib.Seq.{take_all, get_or-drop, drop-drop}
 use Rattle.rules.specs.Leaf.{◌leaving◌}
 use Rattle.rules.specs.Lists.{sum}
 use Rattle.rules.specs.Refusals.{refusing}
-use Rattle.rules.proofs.Refusals.{Clear, clear, by_rows, passed-clear, along, stopped-so}
+use Rattle.rules.proofs.Refusals.{Clear, clear, by_rows, passed_clear, along, stopped_so}
 use Rattle.rules.proofs.Tests.{neither}
-use Rattle.sheet.specs.End.{fromFour, run, entry_of, entriesOf, trailerDistance, number, sideByte, padded}
-use Rattle.sheet.specs.End.{threeZeros, sumNoted, start, records, sheetFaults, End, sheet, refused, end_of}
-use Rattle.sheet.specs.End.{reading_of, readSheet}
-use Rattle.sheet.specs.Asked.{entryIn}
+use Rattle.sheet.specs.End.{from_four, run, entry_of, entries_of, trailer_distance, number, side_byte, padded}
+use Rattle.sheet.specs.End.{three_zeros, sum_noted, start, records, sheet_faults, End, sheet, refused, end_of}
+use Rattle.sheet.specs.End.{reading_of, read_sheet}
+use Rattle.sheet.specs.Asked.{entry_in}
 use Rattle.sheet.specs.Private.{pointed, Pointed, checked}
 use Rattle.sheet.specs.declared.Reading.{Reading}
 use Rattle.sheet.specs.declared.Reading.TheVariants.{Good, Refused}
@@ -21,32 +21,32 @@ use Rattle.sheet.specs.declared.Reading.TheVariants.{Good, Refused}
 -- ---- the trailer's fields, by their places in the file
 
 module _ (s : List ℕ) where
-  pub distance_is : trailerDistance s ≡ fromFour (drop (length s - 16) s)
-  unfolding trailerDistance
+  pub distance_is : trailer_distance s ≡ from_four (drop (length s - 16) s)
+  unfolding trailer_distance
   distance_is = refl
 
-  pub number_is : number s ≡ fromFour (drop (length s - 16 + 4) s)
+  pub number_is : number s ≡ from_four (drop (length s - 16 + 4) s)
   unfolding number
   number_is = rw (drop-drop 4 (length s - 16) s)
 
-  pub side-is : sideByte s ≡ get_or s (length s - 16 + 8) 0
-  unfolding sideByte
-  side-is = get_or-drop (length s - 16) s 8 0
+  pub side_is : side_byte s ≡ get_or s (length s - 16 + 8) 0
+  unfolding side_byte
+  side_is = get_or-drop (length s - 16) s 8 0
 
-  pub padded-is : padded s ≡ threeZeros (drop (length s - 16 + 9) s)
+  pub padded_is : padded s ≡ three_zeros (drop (length s - 16 + 9) s)
   unfolding padded
-  padded-is = rw (drop-drop 9 (length s - 16) s)
+  padded_is = rw (drop-drop 9 (length s - 16) s)
 
-  pub sum_is : sumNoted s ≡ fromFour (drop (length s - 16 + 12) s)
-  unfolding sumNoted
+  pub sum_is : sum_noted s ≡ from_four (drop (length s - 16 + 12) s)
+  unfolding sum_noted
   sum_is = rw (drop-drop 12 (length s - 16) s)
 
 -- ---- a table tried in two parts
 
-pub length-entries : (n : ℕ) (s : List ℕ) → length (entriesOf n s) ≡ n
-unfolding entriesOf
-length-entries zero s = refl
-length-entries (suc n) s = ap suc (length-entries n (drop 8 s))
+pub length_entries : (n : ℕ) (s : List ℕ) → length (entries_of n s) ≡ n
+unfolding entries_of
+length_entries zero s = refl
+length_entries (suc n) s = ap suc (length_entries n (drop 8 s))
 
 module _ (s : List ℕ) where
   starts : length (take (start s) s) ≡ start s
@@ -54,80 +54,80 @@ module _ (s : List ℕ) where
   starts = simp length-take (omega arith)
 
   -- the reader's answer by the table itself
-  read-rows : readSheet s ≡ refusing (sheetFaults s) Refused (Good (start s) (number s) (sideByte s))
-  unfolding readSheet end_of
-  read-rows =
-      along reading_of refused _ Refused _ (sheetFaults s) (λ n. refl)
-      (λ h. rw (starts, length-entries (number s) (records s)))
+  read_rows : read_sheet s ≡ refusing (sheet_faults s) Refused (Good (start s) (number s) (side_byte s))
+  unfolding read_sheet end_of
+  read_rows =
+      along reading_of refused _ Refused _ (sheet_faults s) (λ n. refl)
+      (λ h. rw (starts, length_entries (number s) (records s)))
 
-  pub read-checked : {a n side : ℕ} → Good a n side ≡ pointed s → checked s ≡ readSheet s
-  unfolding sheetFaults
-  read-checked e =
-      let first = passed-clear Refused _ (take 3 (sheetFaults s))
+  pub read_checked : {a n side : ℕ} → Good a n side ≡ pointed s → checked s ≡ read_sheet s
+  unfolding sheet_faults
+  read_checked e =
+      let first = passed_clear Refused _ (take 3 (sheet_faults s))
       (λ n e. absurd (let z : ◌≡◌ {A = ℕ} 0 1 = cc in omega arith)) e in
-      sym (read-rows ∙ clear Refused _ (take 3 (sheetFaults s)) first)
+      sym (read_rows ∙ clear Refused _ (take 3 (sheet_faults s)) first)
 
-  pub read-refused : {m : ℕ} → Refused m ≡ pointed s → Refused m ≡ readSheet s
-  unfolding sheetFaults
-  read-refused e =
-      sym (read-rows ∙ stopped-so Refused _ Refused _ (take 3 (sheetFaults s)) (λ n e. cc)
+  pub read_refused : {m : ℕ} → Refused m ≡ pointed s → Refused m ≡ read_sheet s
+  unfolding sheet_faults
+  read_refused e =
+      sym (read_rows ∙ stopped_so Refused _ Refused _ (take 3 (sheet_faults s)) (λ n e. cc)
       (λ e. absurd (let z : ◌≡◌ {A = ℕ} 0 1 = cc in omega arith)) e)
 
   -- records that a trailer points to end where it starts
-  pub ends_at : Clear (take 3 (sheetFaults s)) → start s + 8 * number s + 16 ≡ length s
-  unfolding sheetFaults start
+  pub ends_at : Clear (take 3 (sheet_faults s)) → start s + 8 * number s + 16 ≡ length s
+  unfolding sheet_faults start
   ends_at h =
       let long = ltb-false (length s) 16 h.0 in
       let at = neither _ _ h.1.0 in
-      let whole : trailerDistance s ≡ 8 * number s = eqb-true _ _ (not-false _ at.0) in
-      let within : trailerDistance s ≤ length s - 16 = ltb-false (length s - 16) (trailerDistance s) at.1 in
+      let whole : trailer_distance s ≡ 8 * number s = eqb-true _ _ (not-false _ at.0) in
+      let within : trailer_distance s ≤ length s - 16 = ltb-false (length s - 16) (trailer_distance s) at.1 in
       omega arith
 
-  pub low-side : Clear (take 3 (sheetFaults s)) → sideByte s ≤ 1
-  unfolding sheetFaults
-  low-side h = ltb-false 1 (sideByte s) (neither _ _ h.1.1.0).0
+  pub low_side : Clear (take 3 (sheet_faults s)) → side_byte s ≤ 1
+  unfolding sheet_faults
+  low_side h = ltb-false 1 (side_byte s) (neither _ _ h.1.1.0).0
 
   -- what the first half hands to the second
-  pub pointed-good : {a n side : ℕ} → Good a n side ≡ pointed s → n < 2 ^ 29 → Pointed s a n side
-  pointed-good {a} {n} {side} e few =
-      by_rows Refused _ (λ r. Good a n side ≡ r → Pointed s a n side) (take 3 (sheetFaults s))
+  pub pointed_good : {a n side : ℕ} → Good a n side ≡ pointed s → n < 2 ^ 29 → Pointed s a n side
+  pointed_good {a} {n} {side} e few =
+      by_rows Refused _ (λ r. Good a n side ≡ r → Pointed s a n side) (take 3 (sheet_faults s))
       (λ m x. absurd (let z : ◌≡◌ {A = ℕ} 0 1 = cc in omega arith)) good e
     where
-      good : Clear (take 3 (sheetFaults s)) → Good a n side ≡ Good (start s) (number s) (sideByte s)
+      good : Clear (take 3 (sheet_faults s)) → Good a n side ≡ Good (start s) (number s) (side_byte s)
           → Pointed s a n side
       good h x =
           let starts : a ≡ start s = cc in
           let counts : n ≡ number s = cc in
-          let sided : side ≡ sideByte s = cc in
+          let sided : side ≡ side_byte s = cc in
           record {
             starts = starts;
             counts = counts;
             sided = sided;
             ends = omega (arith, ends_at h);
             few = few;
-            known = omega (arith, low-side h);
+            known = omega (arith, low_side h);
           }
 
 -- ---- each answer of the first half
 
 module _ (s : List ℕ) where
-  pub at-31 : length s < 16 → Refused 31 ≡ pointed s
-  unfolding sheetFaults
-  at-31 h = rw (lt-ltb (length s) 16 h)
+  pub at_31 : length s < 16 → Refused 31 ≡ pointed s
+  unfolding sheet_faults
+  at_31 h = rw (lt-ltb (length s) 16 h)
 
-  module _ {d n : ℕ} (ds : d ≡ trailerDistance s) (ns : n ≡ number s) (long : 16 ≤ length s) where
-    pub at-32 : (d ≡ 8 * n → ⊥) → Refused 32 ≡ pointed s
-    unfolding sheetFaults
-    at-32 h = rw (← ds, ← ns, le-ltb (length s) 16 long, ne_eqb d (8 * n) h)
+  module _ {d n : ℕ} (ds : d ≡ trailer_distance s) (ns : n ≡ number s) (long : 16 ≤ length s) where
+    pub at_32 : (d ≡ 8 * n → ⊥) → Refused 32 ≡ pointed s
+    unfolding sheet_faults
+    at_32 h = rw (← ds, ← ns, le-ltb (length s) 16 long, ne_eqb d (8 * n) h)
 
-    pub at-32' : d ≡ 8 * n → length s - 16 < d → Refused 32 ≡ pointed s
-    unfolding sheetFaults
-    at-32' e h = rw (← ds, ← ns, le-ltb (length s) 16 long, eq-eqb d (8 * n) e, lt-ltb (length s - 16) d h)
+    pub at_32' : d ≡ 8 * n → length s - 16 < d → Refused 32 ≡ pointed s
+    unfolding sheet_faults
+    at_32' e h = rw (← ds, ← ns, le-ltb (length s) 16 long, eq-eqb d (8 * n) e, lt-ltb (length s - 16) d h)
 
-    module _ {side : ℕ} (whole : d ≡ 8 * n) (within : d ≤ length s - 16) (ss : side ≡ sideByte s) where
-      pub at-33 : 1 < side → Refused 33 ≡ pointed s
-      unfolding sheetFaults
-      at-33 h =
+    module _ {side : ℕ} (whole : d ≡ 8 * n) (within : d ≤ length s - 16) (ss : side ≡ side_byte s) where
+      pub at_33 : 1 < side → Refused 33 ≡ pointed s
+      unfolding sheet_faults
+      at_33 h =
           rw (
             ← ds,
             ← ns,
@@ -138,9 +138,9 @@ module _ (s : List ℕ) where
             lt-ltb 1 side h,
           )
 
-      pub at-33' : side ≤ 1 → padded s ≡ false → Refused 33 ≡ pointed s
-      unfolding sheetFaults
-      at-33' h z =
+      pub at_33' : side ≤ 1 → padded s ≡ false → Refused 33 ≡ pointed s
+      unfolding sheet_faults
+      at_33' h z =
           rw (
             ← ds,
             ← ns,
@@ -152,9 +152,9 @@ module _ (s : List ℕ) where
             z,
           )
 
-      pub at-good : side ≤ 1 → padded s ≡ true → Good (length s - 16 - d) n side ≡ pointed s
-      unfolding sheetFaults start
-      at-good h z =
+      pub at_good : side ≤ 1 → padded s ≡ true → Good (length s - 16 - d) n side ≡ pointed s
+      unfolding sheet_faults start
+      at_good h z =
           rw (
             ← ds,
             ← ns,
@@ -169,52 +169,52 @@ module _ (s : List ℕ) where
 -- ---- and of the second
 
 module _ (s : List ℕ) {a n side : ℕ} (p : Pointed s a n side) where
-  part-is : take (a + 8 * n - a) (drop a s) ≡ take (8 * number s) (records s)
+  part_is : take (a + 8 * n - a) (drop a s) ≡ take (8 * number s) (records s)
   unfolding records
-  part-is = let size : a + 8 * n - a ≡ 8 * n = omega arith in rw (size, p.starts, p.counts)
+  part_is = let size : a + 8 * n - a ≡ 8 * n = omega arith in rw (size, p.starts, p.counts)
 
-  tail-is : take (length s - a) (drop a s) ≡ records s
+  tail_is : take (length s - a) (drop a s) ≡ records s
   unfolding records
-  tail-is = take_all (length s - a) (drop a s) (simp length-drop (omega arith)) ∙ rw p.starts
+  tail_is = take_all (length s - a) (drop a s) (simp length-drop (omega arith)) ∙ rw p.starts
 
-  noted-is : fromFour (drop (a + 8 * n + 12) s) ≡ sumNoted s
-  noted-is = let place : length s - 16 + 12 ≡ a + 8 * n + 12 = omega (arith, p.ends) in rw (sum_is s, place)
+  noted_is : from_four (drop (a + 8 * n + 12) s) ≡ sum_noted s
+  noted_is = let place : length s - 16 + 12 ≡ a + 8 * n + 12 = omega (arith, p.ends) in rw (sum_is s, place)
 
-  pub at-34 : {r : ℕ} → r ≡ run side n (take (length s - a) (drop a s)) → (r ≡ n → ⊥) → Refused 34 ≡ checked s
-  unfolding sheetFaults
-  at-34 {r} rs h = rw (← tail-is, ← p.counts, ← p.sided, ← rs, ne_eqb r n h)
+  pub at_34 : {r : ℕ} → r ≡ run side n (take (length s - a) (drop a s)) → (r ≡ n → ⊥) → Refused 34 ≡ checked s
+  unfolding sheet_faults
+  at_34 {r} rs h = rw (← tail_is, ← p.counts, ← p.sided, ← rs, ne_eqb r n h)
 
   module _ {r t noted : ℕ} (rs : r ≡ run side n (take (length s - a) (drop a s)))
       (ts : t ≡ sum (take (a + 8 * n - a) (drop a s)))
-      (os : noted ≡ fromFour (drop (a + 8 * n + 12) s)) (all : r ≡ n) where
-    pub at-35 : (t % 4294967296 ≡ noted → ⊥) → Refused 35 ≡ checked s
-    unfolding sheetFaults
-    at-35 h =
+      (os : noted ≡ from_four (drop (a + 8 * n + 12) s)) (all : r ≡ n) where
+    pub at_35 : (t % 4294967296 ≡ noted → ⊥) → Refused 35 ≡ checked s
+    unfolding sheet_faults
+    at_35 h =
         rw (
-          ← part-is,
-          ← tail-is,
+          ← part_is,
+          ← tail_is,
           ← p.counts,
           ← p.sided,
           ← rs,
           eq-eqb r n all,
-          ← noted-is,
+          ← noted_is,
           ← os,
           ← ts,
           ne_eqb noted (t % 4294967296) (λ e. h (sym e)),
         )
 
     pub at_all : t % 4294967296 ≡ noted → Good a n side ≡ checked s
-    unfolding sheetFaults
+    unfolding sheet_faults
     at_all e =
         rw (
-          ← part-is,
-          ← tail-is,
+          ← part_is,
+          ← tail_is,
           ← p.starts,
           ← p.counts,
           ← p.sided,
           ← rs,
           eq-eqb r n all,
-          ← noted-is,
+          ← noted_is,
           ← os,
           ← ts,
           eq-eqb noted (t % 4294967296) (sym e),
@@ -222,13 +222,13 @@ module _ (s : List ℕ) {a n side : ℕ} (p : Pointed s a n side) where
 
 -- ---- an entry of what was read
 
-entry_in : (n i : ℕ) (s : List ℕ) → i < n → get_or (entriesOf n s) i 0 ≡ entry_of (drop (8 * i) s)
-unfolding entriesOf
-entry_in zero i s h = absurd (omega arith)
-entry_in (suc n) zero s h = refl
-entry_in (suc n) (suc i) s h =
+entry_in_lem : (n i : ℕ) (s : List ℕ) → i < n → get_or (entries_of n s) i 0 ≡ entry_of (drop (8 * i) s)
+unfolding entries_of
+entry_in_lem zero i s h = absurd (omega arith)
+entry_in_lem (suc n) zero s h = refl
+entry_in_lem (suc n) (suc i) s h =
     let next : 8 + 8 * i ≡ 8 * suc i = omega arith in
-    entry_in n i (drop 8 s) (omega arith) ∙ rw (drop-drop (8 * i) 8 s, next)
+    entry_in_lem n i (drop 8 s) (omega arith) ∙ rw (drop-drop (8 * i) 8 s, next)
 
 pub behind : (s : List ℕ) → records s ≡ drop (start s) s
 unfolding records
@@ -236,43 +236,43 @@ behind s = refl
 
 module _ (s : List ℕ) (i : ℕ) (out : List ℕ) where
   -- what an entry is asked of, by the reader's answer
-  by-reading : (P : End → Type 0) (Q : Reading → Type 0) → ((m : ℕ) → Q (Refused m) → P (refused m))
-      → (Clear (sheetFaults s) → Q (Good (start s) (number s) (sideByte s))
-      → P (sheet (take (start s) s) (record { side = sideByte s; entries = entriesOf (number s) (records s) })))
-      → Q (readSheet s) → P (end_of s)
-  unfolding readSheet end_of
-  by-reading P Q bad good = by_rows refused _ (λ x. Q (reading_of x) → P x) (sheetFaults s) bad
-      (λ h q. good h (rw (starts s, length-entries (number s) (records s)) at q))
+  by_reading_lem : (P : End → Type 0) (Q : Reading → Type 0) → ((m : ℕ) → Q (Refused m) → P (refused m))
+      → (Clear (sheet_faults s) → Q (Good (start s) (number s) (side_byte s))
+      → P (sheet (take (start s) s) (record { side = side_byte s; entries = entries_of (number s) (records s) })))
+      → Q (read_sheet s) → P (end_of s)
+  unfolding read_sheet end_of
+  by_reading_lem P Q bad good = by_rows refused _ (λ x. Q (reading_of x) → P x) (sheet_faults s) bad
+      (λ h q. good h (rw (starts s, length_entries (number s) (records s)) at q))
 
-  pub entry-refused : {m : ℕ} → Refused m ≡ readSheet s → entryIn (end_of s) i out ≡ (m leaving out)
-  entry-refused {m} = by-reading (λ x. entryIn x i out ≡ (m leaving out)) (λ r. Refused m ≡ r)
+  pub entry_refused : {m : ℕ} → Refused m ≡ read_sheet s → entry_in (end_of s) i out ≡ (m leaving out)
+  entry_refused {m} = by_reading_lem (λ x. entry_in x i out ≡ (m leaving out)) (λ r. Refused m ≡ r)
       (λ k e. let same : m ≡ k = cc in rw same)
       (λ h e. absurd (let z : ◌≡◌ {A = ℕ} 0 1 = cc in omega arith))
 
   module _ {a n side : ℕ} where
-    pub entry-none : Good a n side ≡ readSheet s → n ≤ i → entryIn (end_of s) i out ≡ (5 leaving out)
-    entry-none e h = by-reading (λ x. entryIn x i out ≡ (5 leaving out)) (λ r. Good a n side ≡ r)
+    pub entry_none : Good a n side ≡ read_sheet s → n ≤ i → entry_in (end_of s) i out ≡ (5 leaving out)
+    entry_none e h = by_reading_lem (λ x. entry_in x i out ≡ (5 leaving out)) (λ r. Good a n side ≡ r)
         (λ k e. absurd (let z : ◌≡◌ {A = ℕ} 0 1 = cc in omega arith))
         (λ c e.
-        let same : n ≡ number s = cc in rw (length-entries (number s) (records s), le-leb (number s) i (omega arith))) e
+        let same : n ≡ number s = cc in rw (length_entries (number s) (records s), le-leb (number s) i (omega arith))) e
 
-    pub entry_found : Good a n side ≡ readSheet s → i < n
-        → entryIn (end_of s) i out ≡ (0 leaving entry_of (drop (a + 8 * i) s) ∷ [])
+    pub entry_found : Good a n side ≡ read_sheet s → i < n
+        → entry_in (end_of s) i out ≡ (0 leaving entry_of (drop (a + 8 * i) s) ∷ [])
     entry_found e h =
-        by-reading (λ x. entryIn x i out ≡ (0 leaving entry_of (drop (a + 8 * i) s) ∷ [])) (λ r. Good a n side ≡ r)
+        by_reading_lem (λ x. entry_in x i out ≡ (0 leaving entry_of (drop (a + 8 * i) s) ∷ [])) (λ r. Good a n side ≡ r)
         (λ k e. absurd (let z : ◌≡◌ {A = ℕ} 0 1 = cc in omega arith)) (λ c. found) e
       where
-        found : Good a n side ≡ Good (start s) (number s) (sideByte s)
-            → entryIn (sheet (take (start s) s)
-            (record { side = sideByte s; entries = entriesOf (number s) (records s) })) i out
+        found : Good a n side ≡ Good (start s) (number s) (side_byte s)
+            → entry_in (sheet (take (start s) s)
+            (record { side = side_byte s; entries = entries_of (number s) (records s) })) i out
             ≡ (0 leaving entry_of (drop (a + 8 * i) s) ∷ [])
         found e =
             let same : number s ≡ n = cc in
             let begins : start s ≡ a = cc in
             rw (
-              length-entries (number s) (records s),
+              length_entries (number s) (records s),
               lt-leb (number s) i (omega arith),
-              entry_in (number s) i (records s) (omega arith),
+              entry_in_lem (number s) i (records s) (omega arith),
               behind s,
               begins,
               drop-drop (8 * i) a s,
@@ -280,9 +280,9 @@ module _ (s : List ℕ) (i : ℕ) (out : List ℕ) where
 
 -- a good reading's records end where the trailer starts
 module _ (s : List ℕ) where
-  pub read-within : {a n side : ℕ} → Good a n side ≡ readSheet s → a + 8 * n + 16 ≡ length s
-  unfolding sheetFaults
-  read-within {a} {n} {side} e = by-reading s 0 [] (λ x. a + 8 * n + 16 ≡ length s) (λ r. Good a n side ≡ r)
+  pub read_within : {a n side : ℕ} → Good a n side ≡ read_sheet s → a + 8 * n + 16 ≡ length s
+  unfolding sheet_faults
+  read_within {a} {n} {side} e = by_reading_lem s 0 [] (λ x. a + 8 * n + 16 ≡ length s) (λ r. Good a n side ≡ r)
       (λ k e. absurd (let z : ◌≡◌ {A = ℕ} 0 1 = cc in omega arith)) (λ h e.
       let begins : a ≡ start s = cc in
       let counts : n ≡ number s = cc in

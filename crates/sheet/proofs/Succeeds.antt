@@ -1,4 +1,4 @@
--- Mending is not refused where it can be done (`mend-succeeds`). Assumes nothing.
+-- Mending is not refused where it can be done (`mend_succeeds`). Assumes nothing.
 use Rattle.rules.proofs.Common.{ℕ, ◌+◌, ◌*◌, ◌≤◌, Bool, true, false, cond, not, ◌&&◌, true≢false, List, [], ◌∷◌, ◌++◌}
 use Rattle.rules.proofs.Common.{◌≡◌, refl, sym, ap, ◌∙◌, eqb, ltb, length}
 use Rattle.rules.proofs.Common.{take, drop}
@@ -7,17 +7,17 @@ use mathlib.Core.Logic.{◌⊎◌, inl, inr}
 use borrow.Author.Tests.{le-ltb, eq-eqb, ne_eqb}
 use Rattle.rules.specs.Leaf.{◌leaving◌}
 use Rattle.rules.proofs.Refusals.{Clear, clear}
-use Rattle.sheet.specs.Sheet.{sheetBytes}
-use Rattle.sheet.specs.End.{goodRecord, run, readSheet}
-use Rattle.sheet.specs.Mended.{kept, torn, readsAt, recordsIn, Mended, mended, mendFaults, mendOf}
+use Rattle.sheet.specs.Sheet.{sheet_bytes}
+use Rattle.sheet.specs.End.{good_record, run, read_sheet}
+use Rattle.sheet.specs.Mended.{kept, torn, reads_at, records_in, Mended, mended, mend_faults, mend_of}
 use Rattle.sheet.specs.Laws.{RecordsFollow, MendSucceeds}
 use Rattle.sheet.proofs.Kept.{no_longer}
-use Rattle.sheet.proofs.Mending.{size-anew, run-within}
+use Rattle.sheet.proofs.Mending.{size_anew, run_within}
 
 -- a good record that follows is kept
-some-kept : (rest : List ℕ) → RecordsFollow rest → 1 ≤ kept rest
+some_kept : (rest : List ℕ) → RecordsFollow rest → 1 ≤ kept rest
 unfolding run
-some-kept rest (side, known, long, good-one, few) = no_longer rest side 1 known (omega arith) (rw good-one)
+some_kept rest (side, known, long, good-one, few) = no_longer rest side 1 known (omega arith) (rw good-one)
 
 module _ (s : List ℕ) (place : ℕ) (within : place ≤ length s) (room : ℕ) (enough : length s + 16 ≤ room) where
   abbrev n : ℕ
@@ -25,8 +25,8 @@ module _ (s : List ℕ) (place : ℕ) (within : place ≤ length s) (room : ℕ)
 
   abbrev of : Bool → Mended
   of t =
-      cond t (record { bytes = s; records = recordsIn (readSheet s) })
-      (record { bytes = take place s ++ sheetBytes (torn (drop place s)); records = kept (drop place s) })
+      cond t (record { bytes = s; records = records_in (read_sheet s) })
+      (record { bytes = take place s ++ sheet_bytes (torn (drop place s)); records = kept (drop place s) })
 
   -- no test holds
   abbrev Free : Bool → Type 0
@@ -36,19 +36,19 @@ module _ (s : List ℕ) (place : ℕ) (within : place ≤ length s) (room : ℕ)
   free true h = (refl, refl, le-ltb room (length s) (omega arith))
   free false (inl e) = absurd (true≢false (sym e))
   free false (inr f) =
-      let one = some-kept (drop place s) f in (
+      let one = some_kept (drop place s) f in (
         ne_eqb n 0 (λ e. omega arith),
         le-ltb 536870911 n f.4,
-        le-ltb room _ (omega (arith, size-anew s place within refl, run-within s place within refl)),
+        le-ltb room _ (omega (arith, size_anew s place within refl, run_within s place within refl)),
       )
 
-pub mend-succeeds : MendSucceeds
-unfolding mendOf mended
-mend-succeeds s place numbers out two within can enough =
-    let f = free s place within (length out) enough (readsAt place (readSheet s)) can in
+pub mend_succeeds : MendSucceeds
+unfolding mend_of mended
+mend_succeeds s place numbers out two within can enough =
+    let f = free s place within (length out) enough (reads_at place (read_sheet s)) can in
     ap (λ (p : ℕ × (List ℕ × List ℕ)). p.0)
     (clear (λ r. r leaving numbers leaving out)
     (0 leaving length (mended s place).bytes ∷ (mended s place).records ∷ [] leaving (mended s place).bytes
     ++ drop (length (mended s place).bytes) out)
-    (mendFaults s place numbers out)
+    (mend_faults s place numbers out)
     (rw (eq-eqb (length numbers) 2 two), (le-ltb (length s) place within, (f.0, (f.1, (f.2, tt))))))

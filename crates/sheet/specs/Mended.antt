@@ -3,8 +3,8 @@ use Rattle.rules.specs.Common.{ℕ, ◌/◌, Bool, false, cond, not, ◌&&◌, L
 use Rattle.rules.specs.Common.{drop}
 use Rattle.rules.specs.Leaf.{◌leaving◌}
 use Rattle.rules.specs.Refusals.{Row, ◌when◌, refusing}
-use Rattle.sheet.specs.Sheet.{Sheet, sheetBytes}
-use Rattle.sheet.specs.End.{run, entriesOf, readSheet}
+use Rattle.sheet.specs.Sheet.{Sheet, sheet_bytes}
+use Rattle.sheet.specs.End.{run, entries_of, read_sheet}
 use Rattle.sheet.specs.declared.Reading.{Reading}
 use Rattle.sheet.specs.declared.Reading.TheVariants.{Good, Refused}
 
@@ -13,16 +13,16 @@ unfoldable pub kept : List ℕ → ℕ
 kept s = let side = get_or s 5 0 in cond (ltb 1 side) 0 (run side (length s / 8) s)
 
 abbrev pub torn : List ℕ → Sheet
-torn s = record { side = get_or s 5 0; entries = entriesOf (kept s) s }
+torn s = record { side = get_or s 5 0; entries = entries_of (kept s) s }
 
 -- The file reads, and its records start at this place.
-abbrev pub readsAt : ℕ → Reading → Bool
-readsAt place (Good start n side) = eqb start place
-readsAt place (Refused n) = false
+abbrev pub reads_at : ℕ → Reading → Bool
+reads_at place (Good start n side) = eqb start place
+reads_at place (Refused n) = false
 
-abbrev pub recordsIn : Reading → ℕ
-recordsIn (Good start n side) = n
-recordsIn (Refused n) = 0
+abbrev pub records_in : Reading → ℕ
+records_in (Good start n side) = n
+records_in (Refused n) = 0
 
 pub record Mended : Type 0 where
   pub bytes : List ℕ
@@ -33,13 +33,13 @@ pub record Mended : Type 0 where
 unfoldable pub mended : List ℕ → ℕ → Mended
 mended s place =
     let rest = drop place s in
-    cond (readsAt place (readSheet s)) (record { bytes = s; records = recordsIn (readSheet s) })
-    (record { bytes = take place s ++ sheetBytes (torn rest); records = kept rest })
+    cond (reads_at place (read_sheet s)) (record { bytes = s; records = records_in (read_sheet s) })
+    (record { bytes = take place s ++ sheet_bytes (torn rest); records = kept rest })
 
 -- The refusals, in order.
-abbrev pub mendFaults : List ℕ → ℕ → List ℕ → List ℕ → List Row
-mendFaults s place numbers out =
-    let anew = not (readsAt place (readSheet s)) in
+abbrev pub mend_faults : List ℕ → ℕ → List ℕ → List ℕ → List Row
+mend_faults s place numbers out =
+    let anew = not (reads_at place (read_sheet s)) in
     let n = kept (drop place s) in
     5 when not (eqb (length numbers) 2)
     ∷ 37 when ltb (length s) place
@@ -50,8 +50,8 @@ mendFaults s place numbers out =
 
 -- What is returned, and what the numbers and the buffer hold afterwards: the length of the file and how many
 -- records it has, and the file.
-unfoldable pub mendOf : List ℕ → ℕ → List ℕ → List ℕ → ℕ × (List ℕ × List ℕ)
-mendOf s place numbers out =
+unfoldable pub mend_of : List ℕ → ℕ → List ℕ → List ℕ → ℕ × (List ℕ × List ℕ)
+mend_of s place numbers out =
     let m = mended s place in
-    refusing (mendFaults s place numbers out) (λ r. r leaving numbers leaving out)
+    refusing (mend_faults s place numbers out) (λ r. r leaving numbers leaving out)
     (0 leaving length m.bytes ∷ m.records ∷ [] leaving m.bytes ++ drop (length m.bytes) out)

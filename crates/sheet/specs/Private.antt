@@ -3,17 +3,17 @@ use Rattle.rules.specs.Common.{ℕ, ◌+◌, ◌*◌, ◌^◌, ◌≤◌, ◌<�
 use Rattle.rules.specs.Leaf.{◌leaving◌}
 use Rattle.rules.specs.Lists.{sum}
 use Rattle.rules.specs.Refusals.{◌when◌, refusing}
-use Rattle.sheet.specs.Sheet.{kind, trailerOf}
-use Rattle.sheet.specs.End.{number, sideByte, start, sheetFaults}
+use Rattle.sheet.specs.Sheet.{kind, trailer_of}
+use Rattle.sheet.specs.End.{number, side_byte, start, sheet_faults}
 use Rattle.sheet.specs.declared.Reading.{Reading}
 use Rattle.sheet.specs.declared.Reading.TheVariants.{Good, Refused}
 
 -- The answer by the first three refusals alone, and the answer by the others.
 abbrev pub pointed : List ℕ → Reading
-pointed s = refusing (take 3 (sheetFaults s)) Refused (Good (start s) (number s) (sideByte s))
+pointed s = refusing (take 3 (sheet_faults s)) Refused (Good (start s) (number s) (side_byte s))
 
 abbrev pub checked : List ℕ → Reading
-checked s = refusing (drop 3 (sheetFaults s)) Refused (Good (start s) (number s) (sideByte s))
+checked s = refusing (drop 3 (sheet_faults s)) Refused (Good (start s) (number s) (side_byte s))
 
 -- A sheet that reads has fewer than 2^29 records, because its distance is below 2^32.
 abbrev pub Few : Reading → Type 0
@@ -24,7 +24,7 @@ Few (Refused n) = Unit
 pub record Pointed (s : List ℕ) (at n side : ℕ) : Type 0 where
   pub starts : at ≡ start s
   pub counts : n ≡ number s
-  pub sided : side ≡ sideByte s
+  pub sided : side ≡ side_byte s
   pub ends : at + 8 * n + 16 ≡ length s
   pub few : n < 2 ^ 29
   pub known : side ≤ 1
@@ -35,7 +35,7 @@ Kinds es = (i : ℕ) → kind (get_or es i 0) ≤ 1
 
 -- Records at the front of a buffer, followed by their trailer.
 abbrev pub closed : ℕ → ℕ → List ℕ → List ℕ
-closed n side out = let rs = take (8 * n) out in rs ++ trailerOf n side (sum rs)
+closed n side out = let rs = take (8 * n) out in rs ++ trailer_of n side (sum rs)
 
 -- A file copied into a buffer.
 abbrev pub copied : List ℕ → ℕ → List ℕ → List ℕ → ℕ × (List ℕ × List ℕ)

@@ -15,22 +15,22 @@ pub record Sheet : Type 0 where
 abbrev pub kind : ℕ → ℕ
 kind e = e / 4294967296
 
-unfoldable pub recordBytes : ℕ → ℕ → List ℕ
-recordBytes side e = four e ++ (kind e ∷ side ∷ 0 ∷ 0 ∷ [])
+unfoldable pub record_bytes : ℕ → ℕ → List ℕ
+record_bytes side e = four e ++ (kind e ∷ side ∷ 0 ∷ 0 ∷ [])
 
-abbrev pub recordsOf : ℕ → List ℕ → List ℕ
-recordsOf side [] = []
-recordsOf side (e ∷ es) = recordBytes side e ++ recordsOf side es
+abbrev pub records_of : ℕ → List ℕ → List ℕ
+records_of side [] = []
+records_of side (e ∷ es) = record_bytes side e ++ records_of side es
 
 -- The trailer of n records whose bytes have this sum.
-unfoldable pub trailerOf : ℕ → ℕ → ℕ → List ℕ
-trailerOf n side total = four (8 * n) ++ (four n ++ (side ∷ 0 ∷ 0 ∷ 0 ∷ four total))
+unfoldable pub trailer_of : ℕ → ℕ → ℕ → List ℕ
+trailer_of n side total = four (8 * n) ++ (four n ++ (side ∷ 0 ∷ 0 ∷ 0 ∷ four total))
 
 -- A sheet as it is in a file: its records, then the trailer.
-abbrev pub sheetBytes : Sheet → List ℕ
-sheetBytes sh = let records = recordsOf sh.side sh.entries in
-    records ++ trailerOf (length sh.entries) sh.side (sum records)
+abbrev pub sheet_bytes : Sheet → List ℕ
+sheet_bytes sh = let records = records_of sh.side sh.entries in
+    records ++ trailer_of (length sh.entries) sh.side (sum records)
 
 -- The length of a sheet with n records.
-abbrev pub sheetSize : ℕ → ℕ
-sheetSize n = 8 * n + 16
+abbrev pub sheet_size : ℕ → ℕ
+sheet_size n = 8 * n + 16

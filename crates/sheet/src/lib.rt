@@ -5,11 +5,11 @@ pub mod parts;
 ghost use Rattle.std.specs.Prelude.{false, ◌≡◌, ◌+◌, ◌*◌, ◌/◌, ◌%◌, ◌≤◌, ◌<◌, ◌^◌, length, drop};
 ghost use Rattle.rules.specs.Leaf.{◌leaving◌};
 ghost use Rattle.rules.specs.Lists.{sum};
-ghost use Rattle.sheet.specs.Sheet.{kind, recordBytes, recordsOf, trailerOf, sheetSize};
-ghost use Rattle.sheet.specs.End.{fromFour, threeZeros, goodRecord, run, entry_of, readSheet};
-ghost use Rattle.sheet.specs.Asked.{sheetSummary, entry_at};
-ghost use Rattle.sheet.specs.Written.{knownKinds, written_of};
-ghost use Rattle.sheet.specs.Mended.{kept, readsAt, mendOf};
+ghost use Rattle.sheet.specs.Sheet.{kind, record_bytes, records_of, trailer_of, sheet_size};
+ghost use Rattle.sheet.specs.End.{from_four, three_zeros, good_record, run, entry_of, read_sheet};
+ghost use Rattle.sheet.specs.Asked.{sheet_summary, entry_at};
+ghost use Rattle.sheet.specs.Written.{known_kinds, written_of};
+ghost use Rattle.sheet.specs.Mended.{kept, reads_at, mend_of};
 ghost use Rattle.sheet.specs.Private.{pointed, Few, Pointed, checked, Kinds, closed, copied};
 
 // A good sheet: where its records start, how many there are, and the side. Or the number of a refusal.
@@ -32,7 +32,7 @@ pub fn joined(a: u8, b: u8, c: u8, d: u8) -> usize
 // The number that four bytes at a place are, least significant byte first.
 fn number_at(file: &[u8], at: usize) -> usize
     requires { at + 4 ≤ length file.now }
-    ensures { (result ≡ fromFour (drop at file.now)) × (result < 2 ^ 32) }
+    ensures { (result ≡ from_four (drop at file.now)) × (result < 2 ^ 32) }
 {
     joined(file[at], file[at + 1], file[at + 2], file[at + 3])
 }
@@ -40,7 +40,7 @@ fn number_at(file: &[u8], at: usize) -> usize
 // Whether three bytes at a place are 0.
 fn zeros_at(bytes: &[u8], at: usize) -> bool
     requires { at + 3 ≤ length bytes.now }
-    ensures { result ≡ threeZeros (drop at bytes.now) }
+    ensures { result ≡ three_zeros (drop at bytes.now) }
 {
     if bytes[at] != 0 {
         return false;
@@ -54,7 +54,7 @@ fn zeros_at(bytes: &[u8], at: usize) -> bool
 // Whether the record at a place is a good one of this side.
 fn is_good(bytes: &[u8], at: usize, side: u32) -> bool
     requires { at + 8 ≤ length bytes.now }
-    ensures { result ≡ goodRecord side (drop at bytes.now) }
+    ensures { result ≡ good_record side (drop at bytes.now) }
 {
     if 1 < bytes[at + 4] {
         return false;
@@ -143,7 +143,7 @@ fn checked_at(file: &[u8], start: usize, records: usize, side: u32) -> Reading
 }
 
 pub fn read(file: &[u8]) -> Reading
-    ensures { result ≡ readSheet file.now }
+    ensures { result ≡ read_sheet file.now }
 {
     match pointed_to(file) {
         Reading::Good {
@@ -158,7 +158,7 @@ pub fn read(file: &[u8]) -> Reading
 // For a host: where the records start, how many there are, and the side. A buffer of other than three places
 // is refused with 5.
 pub fn summary(numbers: &mut [u64], file: &[u8]) -> u32
-    ensures { (result leaving (λ x. x.now) numbers.exit) ≡ sheetSummary file.now numbers.old }
+    ensures { (result leaving numbers.new) ≡ sheet_summary file.now numbers.old }
 {
     if numbers.len() != 3 {
         return 5;
@@ -189,7 +189,7 @@ fn entry_of(file: &[u8], at: usize) -> u64
 // For a host: the entry with this index, counted from 0. A buffer of other than one place is refused with 5,
 // and so is an index beyond the last.
 pub fn entry(entry: &mut [u64], file: &[u8], index: u64) -> u32
-    ensures { (result leaving (λ x. x.now) entry.exit) ≡ entry_at file.now index entry.old }
+    ensures { (result leaving entry.new) ≡ entry_at file.now index entry.old }
 {
     if entry.len() != 1 {
         return 5;
@@ -212,7 +212,7 @@ pub fn entry(entry: &mut [u64], file: &[u8], index: u64) -> u32
 
 // Whether every entry is silent or heard.
 fn kinds_good(entries: &[u64]) -> bool
-    ensures { result ≡ knownKinds entries.now }
+    ensures { result ≡ known_kinds entries.now }
 {
     for i in 0..entries.len() {
         if 1 < entries[i] / 4294967296 {
@@ -230,7 +230,7 @@ pub fn low(number: u64) -> u8
 
 fn record_of(side: u32, entry: u64) -> [u8; 8]
     requires { (side ≤ 1) × (kind entry ≤ 1) }
-    ensures { result ≡ recordBytes side entry }
+    ensures { result ≡ record_bytes side entry }
 {
     [
         low(entry),
@@ -246,7 +246,7 @@ fn record_of(side: u32, entry: u64) -> [u8; 8]
 
 fn trailer_of(records: usize, side: u32, sum: u64) -> [u8; 16]
     requires { (records < 2 ^ 29) × (side ≤ 1) }
-    ensures { result ≡ trailerOf records side sum }
+    ensures { result ≡ trailer_of records side sum }
 {
     let n = records as u64;
     let distance = 8 * n;
@@ -281,7 +281,7 @@ fn copy(out: &mut [u8], bytes: &[u8])
 
 fn write_records(out: &mut [u8], side: u32, entries: &[u64])
     requires { (length out.old ≡ 8 * length entries.now) × (side ≤ 1) × Kinds entries.now }
-    ensures { out.new ≡ recordsOf side entries.now }
+    ensures { out.new ≡ records_of side entries.now }
 {
     for i in 0..entries.len() {
         let bytes = record_of(side, entries[i]);
@@ -293,7 +293,7 @@ fn write_records(out: &mut [u8], side: u32, entries: &[u64])
 
 // Writes the trailer after so many records, which are at the front.
 fn close(out: &mut [u8], records: usize, side: u32)
-    requires { (length out.old ≡ sheetSize records) × (records < 2 ^ 29) × (side ≤ 1) }
+    requires { (length out.old ≡ sheet_size records) × (records < 2 ^ 29) × (side ≤ 1) }
     ensures { out.new ≡ closed records side out.old }
 {
     let end = 8 * records;
@@ -305,7 +305,7 @@ fn close(out: &mut [u8], records: usize, side: u32)
 // Writes the sheet of these entries to the front of a buffer. An entry is a frame's number, plus 2^32 if it
 // was heard.
 pub fn write(out: &mut [u8], side: u32, entries: &[u64]) -> u32
-    ensures { (result leaving (λ x. x.now) out.exit)
+    ensures { (result leaving out.new)
         ≡ written_of (record { side = side; entries = entries.now }) out.old }
 {
     let records = entries.len();
@@ -345,7 +345,7 @@ fn kept_of(bytes: &[u8]) -> usize
 // Copies a file that reads, with so many records.
 fn copy_whole(numbers: &mut [u64], out: &mut [u8], file: &[u8], records: usize) -> u32
     requires { length numbers.old ≡ 2 }
-    ensures { (result leaving (λ x. x.now) numbers.exit leaving (λ x. x.now) out.exit)
+    ensures { (result leaving numbers.new leaving out.new)
         ≡ copied file.now records numbers.old out.old }
 {
     let size = file.len();
@@ -360,9 +360,9 @@ fn copy_whole(numbers: &mut [u64], out: &mut [u8], file: &[u8], records: usize) 
 
 // Mends a file that does not read so: its bytes up to a place, the good records after it, and a trailer.
 fn mend_run(numbers: &mut [u64], out: &mut [u8], file: &[u8], at: usize) -> u32
-    requires { (length numbers.old ≡ 2) × (at ≤ length file.now) × (readsAt at (readSheet file.now) ≡ false) }
-    ensures { (result leaving (λ x. x.now) numbers.exit leaving (λ x. x.now) out.exit)
-        ≡ mendOf file.now at numbers.old out.old }
+    requires { (length numbers.old ≡ 2) × (at ≤ length file.now) × (reads_at at (read_sheet file.now) ≡ false) }
+    ensures { (result leaving numbers.new leaving out.new)
+        ≡ mend_of file.now at numbers.old out.old }
 {
     let records = kept_of(&file[at..]);
     if records == 0 {
@@ -388,8 +388,8 @@ fn mend_run(numbers: &mut [u64], out: &mut [u8], file: &[u8], at: usize) -> u32
 // kept, and get a new trailer. A file that reads with its records at that place is copied. The numbers are
 // how many bytes were written, and how many records they have.
 pub fn mend(numbers: &mut [u64], out: &mut [u8], file: &[u8], place: u64) -> u32
-    ensures { (result leaving (λ x. x.now) numbers.exit leaving (λ x. x.now) out.exit)
-        ≡ mendOf file.now place numbers.old out.old }
+    ensures { (result leaving numbers.new leaving out.new)
+        ≡ mend_of file.now place numbers.old out.old }
 {
     if numbers.len() != 2 {
         return 5;

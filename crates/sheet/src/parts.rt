@@ -2,16 +2,16 @@
 ghost use Rattle.std.specs.Prelude.{◌≡◌, ◌*◌, ◌≤◌, ◌<◌, ◌^◌, length};
 ghost use Rattle.rules.specs.Leaf.{◌leaving◌};
 ghost use Rattle.rules.specs.Lists.{sum};
-ghost use Rattle.sheet.specs.Sheet.{recordsOf};
-ghost use Rattle.sheet.specs.Rows.{recordsLaid, trailerLaid};
+ghost use Rattle.sheet.specs.Sheet.{records_of};
+ghost use Rattle.sheet.specs.Rows.{records_laid, trailer_laid};
 ghost use Rattle.sheet.specs.Private.{Kinds};
 
 // Writes the records into a buffer that they fill, and returns the sum of their bytes.
 fn lay(out: &mut [u8], side: u32, entries: &[u64]) -> u64
     requires { (length out.old ≡ 8 * length entries.now) × (side ≤ 1) × Kinds entries.now
         × (length entries.now < 2 ^ 29) }
-    ensures { (out.new ≡ recordsOf side entries.now)
-        × (result ≡ sum (recordsOf side entries.now)) × (result < 2 ^ 40) }
+    ensures { (out.new ≡ records_of side entries.now)
+        × (result ≡ sum (records_of side entries.now)) × (result < 2 ^ 40) }
 {
     crate::write_records(out, side, entries);
     let end = out.len();
@@ -22,8 +22,8 @@ fn lay(out: &mut [u8], side: u32, entries: &[u64]) -> u64
 // there are and the sum of their bytes, before and after; both 0 at first. A buffer of other than two numbers
 // is refused with 5.
 pub fn records(numbers: &mut [u64], out: &mut [u8], side: u32, entries: &[u64]) -> u32
-    ensures { (result leaving (λ x. x.now) numbers.exit leaving (λ x. x.now) out.exit)
-        ≡ recordsLaid side entries.now numbers.old out.old }
+    ensures { (result leaving numbers.new leaving out.new)
+        ≡ records_laid side entries.now numbers.old out.old }
 {
     if numbers.len() != 2 {
         return 5;
@@ -55,7 +55,7 @@ pub fn records(numbers: &mut [u64], out: &mut [u8], side: u32, entries: &[u64]) 
 
 // For a host: writes the trailer of so many records, whose bytes have this sum, to the front of a buffer.
 pub fn trailer(out: &mut [u8], side: u32, count: u64, sum: u64) -> u32
-    ensures { (result leaving (λ x. x.now) out.exit) ≡ trailerLaid side count sum out.old }
+    ensures { (result leaving out.new) ≡ trailer_laid side count sum out.old }
 {
     if 536870911 < count {
         return 32;

@@ -2,20 +2,20 @@
 use Rattle.rules.proofs.Common.{ℕ, Bool, true, false, cond, ◌≡◌, refl, eqb}
 use native.Mathlib.Omega.{arith}
 use borrow.Author.Tests.{eqb-true}
-use Rattle.sides.specs.Sides.{LEFT, RGHT, number_of, lettersOf, ofNumber, ofLetters}
+use Rattle.sides.specs.Sides.{LEFT, RGHT, number_of, letters_of, of_number, of_letters}
 use Rattle.sides.specs.Laws.{NumberBack, NumberOnly, LettersBack, LettersOnly}
 use Rattle.sides.specs.declared.Side.{Side}
 use Rattle.sides.specs.declared.Side.TheVariants.{Left, Right}
 use Rattle.sides.specs.declared.Meant.{Meant}
 use Rattle.sides.specs.declared.Meant.TheVariants.{Means, Nothing}
 
-pub number-back : NumberBack
-number-back Left = refl
-number-back Right = refl
+pub number_back : NumberBack
+number_back Left = refl
+number_back Right = refl
 
-pub letters-back : LettersBack
-letters-back Left = refl
-letters-back Right = refl
+pub letters_back : LettersBack
+letters_back Left = refl
+letters_back Right = refl
 
 -- of two tests, the one that holds says the side
 pick : (s t : Bool) (side : Side) {A : Type 0} → cond s (Means Left) (cond t (Means Right) Nothing) ≡ Means side
@@ -24,10 +24,10 @@ pick true t side e left right = left refl (let z : Left ≡ side = cc in z)
 pick false true side e left right = right refl (let z : Right ≡ side = cc in z)
 pick false false side e left right = absurd (let z : ◌≡◌ {A = ℕ} 0 1 = cc in omega arith)
 
-pub number-only : NumberOnly
-number-only n side e =
+pub number_only : NumberOnly
+number_only n side e =
     pick (eqb n 0) (eqb n 1) side e (λ t s. rw (← s) (eqb-true n 0 t)) (λ t s. rw (← s) (eqb-true n 1 t))
 
-pub letters-only : LettersOnly
-letters-only n side e =
+pub letters_only : LettersOnly
+letters_only n side e =
     pick (eqb n LEFT) (eqb n RGHT) side e (λ t s. rw (← s) (eqb-true n LEFT t)) (λ t s. rw (← s) (eqb-true n RGHT t))

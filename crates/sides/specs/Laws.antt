@@ -1,19 +1,19 @@
 -- Claims about sides. Proofs: proofs/Back.antt.
 use Rattle.rules.specs.Common.{ℕ, ◌≡◌}
-use Rattle.sides.specs.Sides.{number_of, lettersOf, ofNumber, ofLetters}
+use Rattle.sides.specs.Sides.{number_of, letters_of, of_number, of_letters}
 use Rattle.sides.specs.declared.Side.{Side}
 use Rattle.sides.specs.declared.Meant.TheVariants.{Means}
 
 -- The number of a side means that side, and no other number does.
 abbrev pub NumberBack : Type 0
-NumberBack = (side : Side) → ofNumber (number_of side) ≡ Means side
+NumberBack = (side : Side) → of_number (number_of side) ≡ Means side
 
 abbrev pub NumberOnly : Type 0
-NumberOnly = (n : ℕ) (side : Side) → ofNumber n ≡ Means side → n ≡ number_of side
+NumberOnly = (n : ℕ) (side : Side) → of_number n ≡ Means side → n ≡ number_of side
 
 -- The same for its four letters.
 abbrev pub LettersBack : Type 0
-LettersBack = (side : Side) → ofLetters (lettersOf side) ≡ Means side
+LettersBack = (side : Side) → of_letters (letters_of side) ≡ Means side
 
 abbrev pub LettersOnly : Type 0
-LettersOnly = (n : ℕ) (side : Side) → ofLetters n ≡ Means side → n ≡ lettersOf side
+LettersOnly = (n : ℕ) (side : Side) → of_letters n ≡ Means side → n ≡ letters_of side

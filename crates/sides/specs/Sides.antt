@@ -17,12 +17,12 @@ abbrev pub number_of : Side → ℕ
 number_of Left = 0
 number_of Right = 1
 
-abbrev pub lettersOf : Side → ℕ
-lettersOf Left = LEFT
-lettersOf Right = RGHT
+abbrev pub letters_of : Side → ℕ
+letters_of Left = LEFT
+letters_of Right = RGHT
 
-abbrev pub ofNumber : ℕ → Meant
-ofNumber n = cond (eqb n 0) (Means Left) (cond (eqb n 1) (Means Right) Nothing)
+abbrev pub of_number : ℕ → Meant
+of_number n = cond (eqb n 0) (Means Left) (cond (eqb n 1) (Means Right) Nothing)
 
-abbrev pub ofLetters : ℕ → Meant
-ofLetters n = cond (eqb n LEFT) (Means Left) (cond (eqb n RGHT) (Means Right) Nothing)
+abbrev pub of_letters : ℕ → Meant
+of_letters n = cond (eqb n LEFT) (Means Left) (cond (eqb n RGHT) (Means Right) Nothing)

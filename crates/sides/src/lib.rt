@@ -1,7 +1,7 @@
 // Left and right: a type of its own, so that no other number can be passed for a side. A bench, 0 to 15, is another
 // type.
 ghost use Rattle.std.specs.Prelude.{◌≡◌, ◌≤◌, ◌<◌, ◌^◌};
-ghost use Rattle.sides.specs.Sides.{number_of, lettersOf, ofNumber, ofLetters};
+ghost use Rattle.sides.specs.Sides.{number_of, letters_of, of_number, of_letters};
 
 // "LEFT" and "RGHT", little end first.
 const LEFT: u32 = 0x5446_454c;
@@ -34,7 +34,7 @@ pub fn number(side: Side) -> u8
 
 // A side's four letters, as the number that they are with the little end first.
 pub fn letters(side: Side) -> u32
-    ensures { result ≡ lettersOf side }
+    ensures { result ≡ letters_of side }
 {
     match side {
         Side::Left => LEFT,
@@ -44,7 +44,7 @@ pub fn letters(side: Side) -> u32
 
 // The side with this number.
 pub fn of_number(number: u32) -> Meant
-    ensures { result ≡ ofNumber number }
+    ensures { result ≡ of_number number }
 {
     if number == 0 {
         return Meant::Means(Side::Left);
@@ -57,7 +57,7 @@ pub fn of_number(number: u32) -> Meant
 
 // The side with these four letters.
 pub fn of_letters(letters: u32) -> Meant
-    ensures { result ≡ ofLetters letters }
+    ensures { result ≡ of_letters letters }
 {
     if letters == LEFT {
         return Meant::Means(Side::Left);

@@ -2,17 +2,17 @@
 -- is decided by request 09.
 use Rattle.rules.specs.Common.{ℕ, List, [], ◌∷◌, ◌++◌, map, ◌≡◌, take, replicate, binary32, nan}
 use Rattle.rules.specs.F32.{f32, one}
-use Rattle.numbers.specs.Activations.{tansigApprox, sigmoidApprox}
+use Rattle.numbers.specs.Activations.{tansig_approx, sigmoid_approx}
 use Rattle.numbers.specs.Larger.{rectified}
 use Rattle.numbers.specs.Root.{root}
 use Rattle.model.specs.Model.{read_of}
 use Rattle.model.specs.declared.Reading.TheVariants.{Refused}
-use Rattle.features.specs.Silence.{soundOf}
+use Rattle.features.specs.Silence.{sound_of}
 use Rattle.features.specs.declared.Sound.TheVariants.{Silent, Heard}
 
 -- The smallest model, of 392 bytes: each GRU has one neuron, and all weights and biases are 0.
-abbrev pub smallestFile : List ℕ
-smallestFile =
+abbrev pub smallest_file : List ℕ
+smallest_file =
     (42 ∷ 1 ∷ 0 ∷ replicate 43 0)
     ++ (1 ∷ 1 ∷ 0 ∷ replicate 9 0)
     ++ (44 ∷ 1 ∷ 0 ∷ replicate 138 0)
@@ -29,12 +29,12 @@ smallestFile =
 -- - the silence test of 0.04, of the number just below it, and of NaN
 abbrev pub Starred : Type 0
 Starred =
-    (map tansigApprox (f32 0 ∷ f32 0x4100_0000 ∷ f32 0xC100_0000 ∷ nan ∷ [])
+    (map tansig_approx (f32 0 ∷ f32 0x4100_0000 ∷ f32 0xC100_0000 ∷ nan ∷ [])
     ≡ f32 0 ∷ one ∷ f32 0xBF80_0000 ∷ f32 0 ∷ [])
-    × (map sigmoidApprox (f32 0 ∷ nan ∷ []) ≡ f32 0x3F00_0000 ∷ f32 0x3F00_0000 ∷ [])
+    × (map sigmoid_approx (f32 0 ∷ nan ∷ []) ≡ f32 0x3F00_0000 ∷ f32 0x3F00_0000 ∷ [])
     × (rectified nan ≡ f32 0)
     × (map (root binary32) (f32 0x4080_0000 ∷ f32 0x4000_0000 ∷ f32 0xBF80_0000 ∷ f32 0x8000_0000 ∷ [])
     ≡ f32 0x4000_0000 ∷ f32 0x3FB5_04F3 ∷ nan ∷ f32 0x8000_0000 ∷ [])
-    × (map read_of ([] ∷ (128 ∷ 0 ∷ 0 ∷ []) ∷ take 391 smallestFile ∷ (smallestFile ++ 0 ∷ []) ∷ [])
+    × (map read_of ([] ∷ (128 ∷ 0 ∷ 0 ∷ []) ∷ take 391 smallest_file ∷ (smallest_file ++ 0 ∷ []) ∷ [])
     ≡ Refused 11 0 ∷ Refused 12 0 ∷ Refused 16 5 ∷ Refused 17 6 ∷ [])
-    × (map soundOf (f32 0x3D23_D70A ∷ f32 0x3D23_D709 ∷ nan ∷ []) ≡ Heard (f32 0x3D23_D70A) ∷ Silent ∷ Heard nan ∷ [])
+    × (map sound_of (f32 0x3D23_D70A ∷ f32 0x3D23_D709 ∷ nan ∷ []) ≡ Heard (f32 0x3D23_D70A) ∷ Silent ∷ Heard nan ∷ [])

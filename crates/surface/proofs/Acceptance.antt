@@ -9,49 +9,49 @@ use Rattle.rules.proofs.Common.{eqb, leb, ltb, length, Float}
 use native.Mathlib.Omega.{arith}
 use borrow.Author.Tests.{eq-eqb, eqb-true, eqb-false, le-ltb, ltb-true, leb-true}
 use Rattle.rules.specs.Place.{get}
-use Rattle.rules.proofs.Places.{length-get}
+use Rattle.rules.proofs.Places.{length_get}
 use Rattle.rules.proofs.Tests.{both}
 use Rattle.samples.specs.Samples.{good}
 use Rattle.model.specs.Model.{read_of}
 use Rattle.model.specs.declared.Model.{Model}
 use Rattle.model.specs.declared.Reading.{Reading}
 use Rattle.model.specs.declared.Reading.TheVariants.{Good, Refused as Unread}
-use Rattle.features.specs.Silence.{energy, isSilent}
+use Rattle.features.specs.Silence.{energy, is_silent}
 use Rattle.frame.specs.declared.Hearing.{Hearing}
 use Rattle.frame.specs.declared.Reply.{Reply}
 use Rattle.frame.specs.declared.Reply.TheVariants.{Done, Refused, Misread}
 use Rattle.frame.specs.declared.Way.{Way}
 use Rattle.frame.specs.Effect.{Effect, refusal, unless}
-use Rattle.frame.specs.Reply.{passed, ◌refusedIf◌, firstRefusal}
+use Rattle.frame.specs.Reply.{passed, ◌refusedIf◌, first_refusal}
 use Rattle.frame.specs.Heard.{Spoken, spoken}
-use Rattle.frame.specs.Share.{PART, SHARE, inputMem, keptEx}
-use Rattle.lag.specs.Lag.{ownLag}
-use Rattle.halves.proofs.Sister.{by-five}
+use Rattle.frame.specs.Share.{PART, SHARE, input_mem, kept_ex}
+use Rattle.lag.specs.Lag.{own_lag}
+use Rattle.halves.proofs.Sister.{by_five}
 use Rattle.frame.specs.Frame.{done1, done2, silent, heard, done3, counted, checked, modelled, done4}
 use Rattle.frame.specs.Frame as frames
 use Rattle.halves.specs.Halves as halves
 use Rattle.frame.specs.Written.{Written, nothing}
-use Rattle.halves.specs.Halves.{lookedBack}
-use Rattle.halves.specs.Ways.{forwardBy}
-use Rattle.halves.proofs.EitherWay.{length-forward}
-use Rattle.pieces.proofs.Halved.{first_passes, second-passes}
-use Rattle.pieces.proofs.Kept.{further-reply}
+use Rattle.halves.specs.Halves.{looked_back}
+use Rattle.halves.specs.Ways.{forward_by}
+use Rattle.halves.proofs.EitherWay.{length_forward}
+use Rattle.pieces.proofs.Halved.{first_passes, second_passes}
+use Rattle.pieces.proofs.Kept.{further_reply}
 use Rattle.pieces.proofs.Shares.{part_length}
-use Rattle.pieces.specs.Pieces.{framePart, waitingIn, waits, completes, pieceFits, resumeFits, begun, resumed}
+use Rattle.pieces.specs.Pieces.{frame_part, waiting_in, waits, completes, piece_fits, resume_fits, begun, resumed}
 use Rattle.pieces.specs.Pieces as pieces
 use Rattle.desk.specs.declared.Record.{Record}
-use Rattle.desk.specs.Gate.{PIECE, RESUME, in_range, isDue, gate, share_of}
-use Rattle.desk.specs.Desk.{Ask, opening, call1, call2, call2Own, call3, call4, firstHalf, secondHalf, piece, resume}
-use Rattle.desk.specs.Desk.{call_of, opened, admitted, onShare, desk}
+use Rattle.desk.specs.Gate.{PIECE, RESUME, in_range, is_due, gate, share_of}
+use Rattle.desk.specs.Desk.{Ask, opening, call1, call2, call2_own, call3, call4, first_half, second_half, piece, resume}
+use Rattle.desk.specs.Desk.{call_of, opened, admitted, on_share, desk}
 use Rattle.desk.specs.declared.Answer.{Answer}
 use Rattle.desk.specs.Laws.{placed}
-use Rattle.desk.proofs.Answered.{done-alike}
+use Rattle.desk.proofs.Answered.{done_alike}
 use Rattle.desk.proofs.Ranged.{bounded}
-use Rattle.whole.specs.Whole.{frameReply, takeReply, takenOn}
+use Rattle.whole.specs.Whole.{frame_reply, take_reply, taken_on}
 use Rattle.whole.specs.Whole as whole
-use Rattle.whole.proofs.Halves.{two-halves, refused-is}
+use Rattle.whole.proofs.Halves.{two_halves, refused_is}
 use Rattle.surface.specs.Surface.{frame}
-use Rattle.surface.specs.Acceptance.{inOrder, mayAsk, reads, suits, asks, takeAsks, wants}
+use Rattle.surface.specs.Acceptance.{in_order, may_ask, reads, suits, asks, take_asks, wants}
 
 -- ---- truth values
 
@@ -65,11 +65,11 @@ under false x y e = refl
 
 -- ---- the gate
 
-pub gate-opens : (n side : ℕ) (rec : Record) (len call : ℕ)
-    → eqb (gate n side rec len call) 0 ≡ (inOrder n side rec len && (eqb call 0 || mayAsk rec call))
+pub gate_opens : (n side : ℕ) (rec : Record) (len call : ℕ)
+    → eqb (gate n side rec len call) 0 ≡ (in_order n side rec len && (eqb call 0 || may_ask rec call))
 unfolding gate
-gate-opens n side rec len call =
-    go (ltb side n) (eqb len (n * SHARE)) (in_range rec) (eqb call 0) (eqb rec.due 0) (isDue rec call)
+gate_opens n side rec len call =
+    go (ltb side n) (eqb len (n * SHARE)) (in_range rec) (eqb call 0) (eqb rec.due 0) (is_due rec call)
   where
     go : (a b c k z d : Bool)
         → eqb (cond (not a) 1 (cond (not b) 2 (cond (not c) 2 (cond (not k && z) 3 (cond (not k && not d) 4 0))))) 0
@@ -83,11 +83,11 @@ gate-opens n side rec len call =
     go true true true false false false = refl
 
 -- a call of the desk passes exactly when the gate lets it in and it passes on the share
-pub desk-passes : (n side : ℕ) (rec : Record) (store : List Float) (a : Ask)
+pub desk_passes : (n side : ℕ) (rec : Record) (store : List Float) (a : Ask)
     → passed (desk n side rec store a).answer.reply
-    ≡ (eqb (gate n side rec (length store) (call_of a)) 0 && passed (onShare rec (get (share_of side) store) a).answer)
+    ≡ (eqb (gate n side rec (length store) (call_of a)) 0 && passed (on_share rec (get (share_of side) store) a).answer)
 unfolding desk
-desk-passes n side rec store a = done-alike rec a (admitted rec share a number).answer ∙ go (eqb number 0)
+desk_passes n side rec store a = done_alike rec a (admitted rec share a number).answer ∙ go (eqb number 0)
   where
     share : List Float
     share = get (share_of side) store
@@ -95,8 +95,8 @@ desk-passes n side rec store a = done-alike rec a (admitted rec share a number).
     number : ℕ
     number = gate n side rec (length store) (call_of a)
 
-    go : (t : Bool) → passed (cond t (onShare rec share a) (refusal (Refused number) share)).answer
-        ≡ (t && passed (onShare rec share a).answer)
+    go : (t : Bool) → passed (cond t (on_share rec share a) (refusal (Refused number) share)).answer
+        ≡ (t && passed (on_share rec share a).answer)
     go true = refl
     go false = refl
 
@@ -133,15 +133,15 @@ module _ (part : List Float) (whole : length part ≡ PART) where
       go true true true true = refl
       go true true true false = refl
 
-  two-own : (x : List Float) (w s : ℕ)
-      → passed (halves.call2Own part x w s).answer ≡ (eqb (length x) 961 && (eqb w 960 && eqb s 22))
-  two-own x w s =
-      ap (λ (f : Effect Reply). passed f.answer) (by-five part x w s)
+  two_own : (x : List Float) (w s : ℕ)
+      → passed (halves.call2_own part x w s).answer ≡ (eqb (length x) 961 && (eqb w 960 && eqb s 22))
+  two_own x w s =
+      ap (λ (f : Effect Reply). passed f.answer) (by_five part x w s)
       ∙ rw (eq-eqb (length part) PART whole) (go (eqb (length x) 961) (eqb w 960) (eqb s 22))
     where
       go : (a b d : Bool)
           → passed (unless (5 refusedIf (not true || (not a || (not b || (not d || false)))) ∷ []) part
-          (done2 part x (ownLag (get inputMem part)))).answer ≡ (a && (b && d))
+          (done2 part x (own_lag (get input_mem part)))).answer ≡ (a && (b && d))
       go false b d = refl
       go true false d = refl
       go true true false = refl
@@ -159,13 +159,13 @@ module _ (part : List Float) (whole : length part ≡ PART) where
 
   -- a model that is checked decides alone: a frame is silent or heard
   module _ (hearing : Hearing) (small : hearing.index ≤ 7) (model : List ℕ) where
-    by-model : (x logs : List Float) (r : Reading)
+    by_model : (x logs : List Float) (r : Reading)
         → passed (modelled (counted hearing) r part (done3 part hearing.index x logs model)).answer
         ≡ passed (checked (counted hearing) r)
     unfolding checked done3
-    by-model x logs (Unread n l) = refl
-    by-model x logs (Good m) =
-        go (counted hearing m) (isSilent (energy (get keptEx part))) (energy (get keptEx part))
+    by_model x logs (Unread n l) = refl
+    by_model x logs (Good m) =
+        go (counted hearing m) (is_silent (energy (get kept_ex part))) (energy (get kept_ex part))
         (spoken part hearing.index x logs model m)
       where
         go : (t q : Bool) (e : Float) (s : Spoken)
@@ -184,7 +184,7 @@ module _ (part : List Float) (whole : length part ≡ PART) where
         rw (eq-eqb (length part) PART whole, le-ltb 7 hearing.index small)
         (go (eqb (length x) 961) (eqb (length logs) 22) (eqb o 961)
         (modelled (counted hearing) (read_of model) part (done3 part hearing.index x logs model))
-        (by-model x logs (read_of model)))
+        (by_model x logs (read_of model)))
       where
         go : (a b d : Bool) (f : Effect Reply) → passed f.answer ≡ passed (checked (counted hearing) (read_of model))
             → passed (unless (5 refusedIf (not true || (not a || (not b || (not d || false)))) ∷ 5 refusedIf false ∷ [])
@@ -198,12 +198,12 @@ module _ (part : List Float) (whole : length part ≡ PART) where
   -- ---- the halves
 
   first : (way : Way) (x : List Float) (s : ℕ)
-      → passed (halves.firstHalf part way x s).answer ≡ (eqb (length x) 480 && (eqb s 22 && good x))
-  unfolding halves.firstHalf
+      → passed (halves.first_half part way x s).answer ≡ (eqb (length x) 480 && (eqb s 22 && good x))
+  unfolding halves.first_half
   first way x s = go (eqb (length x) 480) refl (eqb s 22) refl (good x) refl
     where
       go : (a : Bool) → eqb (length x) 480 ≡ a → (b : Bool) → eqb s 22 ≡ b → (g : Bool) → good x ≡ g
-          → passed (halves.firstHalf part way x s).answer ≡ (a && (b && g))
+          → passed (halves.first_half part way x s).answer ≡ (a && (b && g))
       go false e b f g h = rw (eq-eqb (length part) PART whole, e)
       go true e false f g h = rw (eq-eqb (length part) PART whole, e, f)
       go true e true f true h =
@@ -213,9 +213,9 @@ module _ (part : List Float) (whole : length part ≡ PART) where
           rw (eq-eqb (length part) PART whole, e, f, no) no
 
   second : (hearing : Hearing) → hearing.index ≤ 7 → (logs : List Float) (model : List ℕ) (o : ℕ)
-      → passed (halves.secondHalf part hearing logs model o).answer
+      → passed (halves.second_half part hearing logs model o).answer
       ≡ (eqb (length logs) 22 && (eqb o 480 && passed (checked (counted hearing) (read_of model))))
-  unfolding halves.secondHalf
+  unfolding halves.second_half
   second hearing small logs model o = go (eqb (length logs) 22) refl (eqb o 480) refl
     where
       -- the answer is call 3's
@@ -226,28 +226,28 @@ module _ (part : List Float) (whole : length part ≡ PART) where
       alike f kept written false = refl
 
       go : (a : Bool) → eqb (length logs) 22 ≡ a → (b : Bool) → eqb o 480 ≡ b
-          → passed (halves.secondHalf part hearing logs model o).answer
+          → passed (halves.second_half part hearing logs model o).answer
           ≡ (a && (b && passed (checked (counted hearing) (read_of model))))
       go false e b f = rw (eq-eqb (length part) PART whole, e)
       go true e false f = rw (eq-eqb (length part) PART whole, e, f)
       go true e true f =
-          let third = frames.call3 part hearing (forwardBy hearing.way (lookedBack part)) logs model 961 in
+          let third = frames.call3 part hearing (forward_by hearing.way (looked_back part)) logs model 961 in
           rw (eq-eqb (length part) PART whole, e, f, le-ltb 7 hearing.index small)
           (alike third _ _ (passed third.answer)
-          ∙ three hearing small model (forwardBy hearing.way (lookedBack part)) logs 961
-          ∙ rw (eq-eqb _ 961 (length-forward hearing.way (lookedBack part)), e))
+          ∙ three hearing small model (forward_by hearing.way (looked_back part)) logs 961
+          ∙ rw (eq-eqb _ 961 (length_forward hearing.way (looked_back part)), e))
 
 -- ---- a piece and a resume, on a whole share
 
 module _ (share : List Float) (whole : length share ≡ SHARE) where
   a_piece : (way : Way) (waiting : ℕ) (x : List Float) (o s : ℕ)
       → passed (pieces.piece share way waiting x o s).answer
-      ≡ (pieceFits waiting (length x) o s && (good (waitingIn waiting share) && good x))
+      ≡ (piece_fits waiting (length x) o s && (good (waiting_in waiting share) && good x))
   unfolding pieces.piece
   a_piece way waiting x o s =
       rw (eq-eqb (length share) SHARE whole)
-      (go (pieceFits waiting (length x) o s) (good (waitingIn waiting share)) (good x) (begun share way waiting x)
-      (ap passed (further-reply Done (waits share []) way (waitingIn waiting share ++ x) nothing)))
+      (go (piece_fits waiting (length x) o s) (good (waiting_in waiting share)) (good x) (begun share way waiting x)
+      (ap passed (further_reply Done (waits share []) way (waiting_in waiting share ++ x) nothing)))
     where
       go : (a b d : Bool) (f : Effect Reply) → passed f.answer ≡ true
           → passed (unless (5 refusedIf not true ∷ 5 refusedIf not a ∷ 9 refusedIf not b ∷ 9 refusedIf not d ∷ []) share
@@ -258,9 +258,9 @@ module _ (share : List Float) (whole : length share ≡ SHARE) where
       go true true true f e = e
 
   -- a resume that fits has 22 logarithms, and an index
-  sizes : (index noted progress size logs o s : ℕ) → resumeFits index noted progress size logs o s ≡ true
+  sizes : (index noted progress size logs o s : ℕ) → resume_fits index noted progress size logs o s ≡ true
       → (index ≤ 7) × (logs ≡ 22)
-  unfolding resumeFits
+  unfolding resume_fits
   sizes index noted progress size logs o s e =
       let p = both (leb index 7) _ e in
       let q = both (leb 1 progress) _ p.1 in
@@ -270,26 +270,26 @@ module _ (share : List Float) (whole : length share ≡ SHARE) where
       let v = both (eqb logs 22) _ u.1 in
       (leb-true index 7 p.0, eqb-true logs 22 v.0)
 
-  a-resume : (hearing : Hearing) (noted progress : ℕ) (x logs : List Float) (model : List ℕ) (o s : ℕ)
+  a_resume : (hearing : Hearing) (noted progress : ℕ) (x logs : List Float) (model : List ℕ) (o s : ℕ)
       → passed (pieces.resume share hearing noted progress x logs model o s).answer
-      ≡ (resumeFits hearing.index noted progress (length x) (length logs) o s
+      ≡ (resume_fits hearing.index noted progress (length x) (length logs) o s
       && (passed (checked (counted hearing) (read_of model)) && good x))
   unfolding pieces.resume
-  a-resume hearing noted progress x logs model o s =
+  a_resume hearing noted progress x logs model o s =
       rw (eq-eqb (length share) SHARE whole)
-      (go (resumeFits hearing.index noted progress (length x) (length logs) o s) refl
+      (go (resume_fits hearing.index noted progress (length x) (length logs) o s) refl
       (checked (counted hearing) (read_of model))
       (passed (checked (counted hearing) (read_of model))) refl (good x) refl)
     where
-      ends : resumeFits hearing.index noted progress (length x) (length logs) o s ≡ true
+      ends : resume_fits hearing.index noted progress (length x) (length logs) o s ≡ true
           → passed (checked (counted hearing) (read_of model)) ≡ true
           → passed (resumed share hearing progress x logs model).answer ≡ true
       ends e p =
           let k = sizes hearing.index noted progress (length x) (length logs) o s e in
-          ap passed (further-reply _ _ hearing.way _ _)
-          ∙ (second-passes (get framePart share) hearing logs model (part_length share whole) k.1 k.0 p).passes
+          ap passed (further_reply _ _ hearing.way _ _)
+          ∙ (second_passes (get frame_part share) hearing logs model (part_length share whole) k.1 k.0 p).passes
 
-      go : (a : Bool) → resumeFits hearing.index noted progress (length x) (length logs) o s ≡ a
+      go : (a : Bool) → resume_fits hearing.index noted progress (length x) (length logs) o s ≡ a
           → (c : Reply) (q : Bool) → passed c ≡ q → (g : Bool)
           → (passed (checked (counted hearing) (read_of model)) ≡ q)
           → passed (unless (5 refusedIf not true ∷ 5 refusedIf not a ∷ c ∷ 9 refusedIf not g ∷ []) share
@@ -303,136 +303,136 @@ module _ (share : List Float) (whole : length share ≡ SHARE) where
 
 module _ (n side : ℕ) (rec : Record) (store : List Float) where
   abbrev ok : Bool
-  ok = inOrder n side rec (length store)
+  ok = in_order n side rec (length store)
 
   abbrev share : List Float
   share = get (share_of side) store
 
-  whole-share : inOrder n side rec (length store) ≡ true → length (get (share_of side) store) ≡ SHARE
-  whole-share e =
+  whole_share : in_order n side rec (length store) ≡ true → length (get (share_of side) store) ≡ SHARE
+  whole_share e =
       let p = both (ltb side n) _ e in
       let inside = ltb-true side n p.0 in
       let sized = eqb-true (length store) (n * SHARE) (both (eqb (length store) (n * SHARE)) (in_range rec) p.1).0 in
-      length-get (share_of side) store (omega arith)
+      length_get (share_of side) store (omega arith)
 
-  whole_part : inOrder n side rec (length store) ≡ true → length (get framePart (get (share_of side) store)) ≡ PART
-  whole_part e = part_length share (whole-share e)
+  whole_part_lem : in_order n side rec (length store) ≡ true → length (get frame_part (get (share_of side) store)) ≡ PART
+  whole_part_lem e = part_length share (whole_share e)
 
-  index : inOrder n side rec (length store) ≡ true → rec.hearing.index ≤ 7
+  index : in_order n side rec (length store) ≡ true → rec.hearing.index ≤ 7
   index e = (bounded rec (both (eqb (length store) (n * SHARE)) (in_range rec) (both (ltb side n) _ e).1).1).index
 
   by : (a : Ask) (m y : Bool)
-      → eqb (gate n side rec (length store) (call_of a)) 0 ≡ (inOrder n side rec (length store) && m)
-      → (inOrder n side rec (length store) ≡ true → passed (onShare rec (get (share_of side) store) a).answer ≡ y)
-      → passed (desk n side rec store a).answer.reply ≡ (inOrder n side rec (length store) && (m && y))
+      → eqb (gate n side rec (length store) (call_of a)) 0 ≡ (in_order n side rec (length store) && m)
+      → (in_order n side rec (length store) ≡ true → passed (on_share rec (get (share_of side) store) a).answer ≡ y)
+      → passed (desk n side rec store a).answer.reply ≡ (in_order n side rec (length store) && (m && y))
   by a m y g h =
-      desk-passes n side rec store a
-      ∙ ap (λ (t : Bool). t && passed (onShare rec share a).answer) g
-      ∙ apart ok m (passed (onShare rec share a).answer)
+      desk_passes n side rec store a
+      ∙ ap (λ (t : Bool). t && passed (on_share rec share a).answer) g
+      ∙ apart ok m (passed (on_share rec share a).answer)
       ∙ under ok _ _ (λ e. ap (λ (t : Bool). m && t) (h e))
 
   opens : (r : Reading) → passed (opened share r).answer ≡ reads r
   opens (Good m) = refl
   opens (Unread k l) = refl
 
-  pub desk-asks : (a : Ask)
+  pub desk_asks : (a : Ask)
       → passed (desk n side rec store a).answer.reply
-      ≡ (inOrder n side rec (length store) && asks rec (get (share_of side) store) a)
-  desk-asks (opening w m) =
-      by (opening w m) true (reads (read_of m)) (gate-opens n side rec (length store) 0) (λ e. opens (read_of m))
-  desk-asks (call1 x w) =
-      by (call1 x w) (mayAsk rec 1) _ (gate-opens n side rec (length store) 1)
-      (λ e. one (get framePart share) (whole_part e) x w)
-  desk-asks (call2 x l w s) =
-      by (call2 x l w s) (mayAsk rec 2) _ (gate-opens n side rec (length store) 2)
-      (λ e. two (get framePart share) (whole_part e) x l w s)
-  desk-asks (call2Own x w s) =
-      by (call2Own x w s) (mayAsk rec 2) _ (gate-opens n side rec (length store) 2)
-      (λ e. two-own (get framePart share) (whole_part e) x w s)
-  desk-asks (call3 x l m o) =
-      by (call3 x l m o) (mayAsk rec 3) _ (gate-opens n side rec (length store) 3)
-      (λ e. three (get framePart share) (whole_part e) rec.hearing (index e) m x l o)
-  desk-asks (call4 x o) =
-      by (call4 x o) (mayAsk rec 4) _ (gate-opens n side rec (length store) 4)
-      (λ e. four (get framePart share) (whole_part e) x o)
-  desk-asks (firstHalf x s) =
-      by (firstHalf x s) (mayAsk rec 1) _ (gate-opens n side rec (length store) 1)
-      (λ e. first (get framePart share) (whole_part e) rec.hearing.way x s)
-  desk-asks (secondHalf l m o) =
-      by (secondHalf l m o) (mayAsk rec 3) _ (gate-opens n side rec (length store) 3)
-      (λ e. second (get framePart share) (whole_part e) rec.hearing (index e) l m o)
-  desk-asks (piece x o s) =
-      by (piece x o s) (mayAsk rec PIECE) _ (gate-opens n side rec (length store) PIECE)
-      (λ e. a_piece share (whole-share e) rec.hearing.way rec.waiting x o s)
-  desk-asks (resume x l m o s) =
-      by (resume x l m o s) (mayAsk rec RESUME) _ (gate-opens n side rec (length store) RESUME)
-      (λ e. a-resume share (whole-share e) rec.hearing rec.piece rec.progress x l m o s)
+      ≡ (in_order n side rec (length store) && asks rec (get (share_of side) store) a)
+  desk_asks (opening w m) =
+      by (opening w m) true (reads (read_of m)) (gate_opens n side rec (length store) 0) (λ e. opens (read_of m))
+  desk_asks (call1 x w) =
+      by (call1 x w) (may_ask rec 1) _ (gate_opens n side rec (length store) 1)
+      (λ e. one (get frame_part share) (whole_part_lem e) x w)
+  desk_asks (call2 x l w s) =
+      by (call2 x l w s) (may_ask rec 2) _ (gate_opens n side rec (length store) 2)
+      (λ e. two (get frame_part share) (whole_part_lem e) x l w s)
+  desk_asks (call2_own x w s) =
+      by (call2_own x w s) (may_ask rec 2) _ (gate_opens n side rec (length store) 2)
+      (λ e. two_own (get frame_part share) (whole_part_lem e) x w s)
+  desk_asks (call3 x l m o) =
+      by (call3 x l m o) (may_ask rec 3) _ (gate_opens n side rec (length store) 3)
+      (λ e. three (get frame_part share) (whole_part_lem e) rec.hearing (index e) m x l o)
+  desk_asks (call4 x o) =
+      by (call4 x o) (may_ask rec 4) _ (gate_opens n side rec (length store) 4)
+      (λ e. four (get frame_part share) (whole_part_lem e) x o)
+  desk_asks (first_half x s) =
+      by (first_half x s) (may_ask rec 1) _ (gate_opens n side rec (length store) 1)
+      (λ e. first (get frame_part share) (whole_part_lem e) rec.hearing.way x s)
+  desk_asks (second_half l m o) =
+      by (second_half l m o) (may_ask rec 3) _ (gate_opens n side rec (length store) 3)
+      (λ e. second (get frame_part share) (whole_part_lem e) rec.hearing (index e) l m o)
+  desk_asks (piece x o s) =
+      by (piece x o s) (may_ask rec PIECE) _ (gate_opens n side rec (length store) PIECE)
+      (λ e. a_piece share (whole_share e) rec.hearing.way rec.waiting x o s)
+  desk_asks (resume x l m o s) =
+      by (resume x l m o s) (may_ask rec RESUME) _ (gate_opens n side rec (length store) RESUME)
+      (λ e. a_resume share (whole_share e) rec.hearing rec.piece rec.progress x l m o s)
 
 -- ---- whole calls
 
-frame-rows : (number : ℕ) (t a b : Bool) (c : Reply) (q g : Bool) → passed c ≡ q
+frame_rows_lem : (number : ℕ) (t a b : Bool) (c : Reply) (q g : Bool) → passed c ≡ q
     → passed
-    (firstRefusal (number refusedIf not t ∷ 5 refusedIf (not a || (not b || false)) ∷ c ∷ 9 refusedIf not g ∷ []))
+    (first_refusal (number refusedIf not t ∷ 5 refusedIf (not a || (not b || false)) ∷ c ∷ 9 refusedIf not g ∷ []))
     ≡ (t && (a && (b && (q && g))))
-frame-rows number false a b c q g e = refl
-frame-rows number true false b c q g e = refl
-frame-rows number true true false c q g e = refl
-frame-rows number true true true c false g e = rw (e, e)
-frame-rows number true true true c true false e = rw e
-frame-rows number true true true c true true e = rw e
+frame_rows_lem number false a b c q g e = refl
+frame_rows_lem number true false b c q g e = refl
+frame_rows_lem number true true false c q g e = refl
+frame_rows_lem number true true true c false g e = rw (e, e)
+frame_rows_lem number true true true c true false e = rw e
+frame_rows_lem number true true true c true true e = rw e
 
-take-rows : (number : ℕ) (t a b : Bool) (c : Reply) (q g : Bool) → passed c ≡ q
+take_rows_lem : (number : ℕ) (t a b : Bool) (c : Reply) (q g : Bool) → passed c ≡ q
     → passed
-    (firstRefusal (number refusedIf not t ∷ 5 refusedIf not a ∷ 5 refusedIf not b ∷ c ∷ 9 refusedIf not g ∷ []))
+    (first_refusal (number refusedIf not t ∷ 5 refusedIf not a ∷ 5 refusedIf not b ∷ c ∷ 9 refusedIf not g ∷ []))
     ≡ (t && (a && (b && (q && g))))
-take-rows number false a b c q g e = refl
-take-rows number true false b c q g e = refl
-take-rows number true true false c q g e = refl
-take-rows number true true true c false g e = rw (e, e)
-take-rows number true true true c true false e = rw e
-take-rows number true true true c true true e = rw e
+take_rows_lem number false a b c q g e = refl
+take_rows_lem number true false b c q g e = refl
+take_rows_lem number true true false c q g e = refl
+take_rows_lem number true true true c false g e = rw (e, e)
+take_rows_lem number true true true c true false e = rw e
+take_rows_lem number true true true c true true e = rw e
 
 module _ (n side : ℕ) (rec : Record) (store : List Float) where
   -- the gate in front of the other conditions
   gated : (call : ℕ) (m y : Bool)
-      → eqb (gate n side rec (length store) call) 0 ≡ (inOrder n side rec (length store) && m)
-      → (eqb (gate n side rec (length store) call) 0 && y) ≡ (inOrder n side rec (length store) && (m && y))
-  gated call m y g = ap (λ (t : Bool). t && y) g ∙ apart (inOrder n side rec (length store)) m y
+      → eqb (gate n side rec (length store) call) 0 ≡ (in_order n side rec (length store) && m)
+      → (eqb (gate n side rec (length store) call) 0 && y) ≡ (in_order n side rec (length store) && (m && y))
+  gated call m y g = ap (λ (t : Bool). t && y) g ∙ apart (in_order n side rec (length store)) m y
 
-  pub frame-asks : (x : List Float) (m : List ℕ) (o : ℕ)
+  pub frame_asks : (x : List Float) (m : List ℕ) (o : ℕ)
       → passed (whole.frame n side rec store x m o).answer.reply
-      ≡ (inOrder n side rec (length store) && wants rec (get (share_of side) store) (frame x m o))
-  unfolding frameReply
-  frame-asks x m o =
-      go (passed (frameReply n side rec (length store) x m o)) refl
-      ∙ frame-rows (gate n side rec (length store) 1) (eqb (gate n side rec (length store) 1) 0) (eqb (length x) 480)
+      ≡ (in_order n side rec (length store) && wants rec (get (share_of side) store) (frame x m o))
+  unfolding frame_reply
+  frame_asks x m o =
+      go (passed (frame_reply n side rec (length store) x m o)) refl
+      ∙ frame_rows_lem (gate n side rec (length store) 1) (eqb (gate n side rec (length store) 1) 0) (eqb (length x) 480)
       (eqb o 480)
       (checked (counted rec.hearing) (read_of m)) (suits rec m) (good x) refl
-      ∙ gated 1 (mayAsk rec 1) _ (gate-opens n side rec (length store) 1)
+      ∙ gated 1 (may_ask rec 1) _ (gate_opens n side rec (length store) 1)
     where
-      go : (t : Bool) → passed (frameReply n side rec (length store) x m o) ≡ t
+      go : (t : Bool) → passed (frame_reply n side rec (length store) x m o) ≡ t
           → passed (whole.frame n side rec store x m o).answer.reply
-          ≡ passed (frameReply n side rec (length store) x m o)
+          ≡ passed (frame_reply n side rec (length store) x m o)
       go true p =
-          let h = two-halves n side rec store x m o p in
+          let h = two_halves n side rec store x m o p in
           ap (λ (e : Effect Answer). passed e.answer.reply) h.2 ∙ h.1 ∙ sym p
-      go false p = ap (λ (e : Effect Answer). passed e.answer.reply) (refused-is n side rec store x m o p)
+      go false p = ap (λ (e : Effect Answer). passed e.answer.reply) (refused_is n side rec store x m o p)
 
-  pub take-asks : (x : List Float) (m : List ℕ) (o a : ℕ)
+  pub take_asks_lem : (x : List Float) (m : List ℕ) (o a : ℕ)
       → passed (whole.take n side rec store x m o a).answer.reply
-      ≡ (inOrder n side rec (length store) && takeAsks rec (get (share_of side) store) x m o a)
-  unfolding whole.take takeReply
-  take-asks x m o a =
-      go (passed (takeReply n side rec store x m o a)) refl
-      ∙ take-rows (gate n side rec (length store) PIECE) (eqb (gate n side rec (length store) PIECE) 0)
-      (pieceFits rec.waiting (length x) o 22)
+      ≡ (in_order n side rec (length store) && take_asks rec (get (share_of side) store) x m o a)
+  unfolding whole.take take_reply
+  take_asks_lem x m o a =
+      go (passed (take_reply n side rec store x m o a)) refl
+      ∙ take_rows_lem (gate n side rec (length store) PIECE) (eqb (gate n side rec (length store) PIECE) 0)
+      (piece_fits rec.waiting (length x) o 22)
       (leb (3 * completes rec.waiting (length x)) a) (checked (counted rec.hearing) (read_of m)) (suits rec m)
-      (good (waitingIn rec.waiting (get (share_of side) store) ++ x)) refl
-      ∙ gated PIECE (mayAsk rec PIECE) _ (gate-opens n side rec (length store) PIECE)
+      (good (waiting_in rec.waiting (get (share_of side) store) ++ x)) refl
+      ∙ gated PIECE (may_ask rec PIECE) _ (gate_opens n side rec (length store) PIECE)
     where
-      go : (t : Bool) → passed (takeReply n side rec store x m o a) ≡ t
-          → passed (cond t (placed side store (takenOn rec (get (share_of side) store) x m))
-          (refusal (record { reply = takeReply n side rec store x m o a; rec = rec }) store)).answer.reply
-          ≡ passed (takeReply n side rec store x m o a)
+      go : (t : Bool) → passed (take_reply n side rec store x m o a) ≡ t
+          → passed (cond t (placed side store (taken_on rec (get (share_of side) store) x m))
+          (refusal (record { reply = take_reply n side rec store x m o a; rec = rec }) store)).answer.reply
+          ≡ passed (take_reply n side rec store x m o a)
       go true p = sym p
       go false p = refl

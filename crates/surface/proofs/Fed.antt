@@ -8,8 +8,8 @@ use Rattle.rules.proofs.Common.{eqb, length, get_or, Float}
 use native.Mathlib.Omega.{arith}
 use borrow.Author.Tests.{eqb-true, eqb-false, eq-eqb}
 use Rattle.rules.specs.Place.{get, put}
-use Rattle.frame.specs.Written.{nothing, firstIn, wholesIn}
-use Rattle.rules.proofs.Places.{length-get, get-put}
+use Rattle.frame.specs.Written.{nothing, first_in, wholes_in}
+use Rattle.rules.proofs.Places.{length_get, get_put}
 use Rattle.rules.proofs.Refusals.{by_rows}
 use Rattle.desk.specs.declared.Answer.{Answer}
 use Rattle.frame.specs.Effect.{Effect, refusal}
@@ -17,39 +17,39 @@ use Rattle.frame.specs.declared.Reply.{Reply}
 use Rattle.frame.specs.declared.Reply.TheVariants.{Refused}
 use Rattle.frame.specs.Reply.{passed}
 use Rattle.frame.specs.Share.{SHARE}
-use Rattle.pieces.specs.Pieces.{waitingIn}
+use Rattle.pieces.specs.Pieces.{waiting_in}
 use Rattle.desk.specs.declared.Record.{Record}
 use Rattle.desk.specs.Gate.{PIECE, side_of, gate, share_of}
 use Rattle.desk.specs.Laws.{placed}
-use Rattle.desk.specs.Surface.{recordIn}
-use Rattle.dictation.proofs.Joins.{share-size}
-use Rattle.whole.specs.Whole.{takeReply, lentToEach, takenOn}
+use Rattle.desk.specs.Surface.{record_in}
+use Rattle.dictation.proofs.Joins.{share_size}
+use Rattle.whole.specs.Whole.{take_reply, lent_to_each, taken_on}
 use Rattle.whole.specs.Whole as whole
-use Rattle.whole.proofs.Accepted.{take-accepted, fits-sizes}
+use Rattle.whole.proofs.Accepted.{take_accepted, fits_sizes}
 use Rattle.whole.proofs.Ranged.{take_by}
-use Rattle.isolation.specs.Run.{returned, On, on, State, recordAt, after, ended, received, done}
+use Rattle.isolation.specs.Run.{returned, On, on, State, record_at, after, ended, received, done}
 use Rattle.isolation.proofs.Isolated.{beside}
 use Rattle.isolation.proofs.Runs.{reads}
-use Rattle.feed.specs.Feed.{Block, ROOM, blockSize, samplesOf, feedRows, fedBy}
+use Rattle.feed.specs.Feed.{Block, ROOM, block_size, samples_of, feed_rows, fed_by}
 use Rattle.feed.specs.Feed as feeding
-use Rattle.feed.specs.Surface.{hostedFeed}
+use Rattle.feed.specs.Surface.{hosted_feed}
 use Rattle.surface.specs.Surface.{Call, ask, frame, take, feed, surface}
-use Rattle.surface.specs.Cutting.{Has, has_of, dictationOf, hasSaid}
-use Rattle.surface.proofs.Numbers.{zero-is-done}
-use Rattle.surface.proofs.Refusing.{refused-leaves}
+use Rattle.surface.specs.Cutting.{Has, has_of, dictation_of, has_said}
+use Rattle.surface.proofs.Numbers.{zero_is_done}
+use Rattle.surface.proofs.Refusing.{refused_leaves}
 use Rattle.surface.proofs.Surfaced.{owned}
 
 -- ---- one call
 
 -- what side s has of what a call gave, with this record
-abbrev gaveOf : ℕ → List ℕ → Effect Answer → Has
-gaveOf s ns g =
+abbrev gave_of : ℕ → List ℕ → Effect Answer → Has
+gave_of s ns g =
     record {
-      rec = recordIn s (returned s ns g).numbers;
+      rec = record_in s (returned s ns g).numbers;
       share = get (share_of s) g.kept;
-      cleaned = wholesIn (get_or g.written 1 nothing);
-      records = wholesIn (get_or g.written 2 nothing);
-      answers = firstIn g.written;
+      cleaned = wholes_in (get_or g.written 1 nothing);
+      records = wholes_in (get_or g.written 2 nothing);
+      answers = first_in g.written;
     }
 
 -- and of none
@@ -57,12 +57,12 @@ abbrev pub bare : Record → List Float → Has
 bare b xs = record { rec = b; share = xs; cleaned = []; records = []; answers = [] }
 
 -- what a call is answered
-abbrev replyTo : ℕ → ℕ → List ℕ → List Float → Call → Reply
-replyTo n side ns store c = (surface n side ns store c).answer.reply
+abbrev reply_to : ℕ → ℕ → List ℕ → List Float → Call → Reply
+reply_to n side ns store c = (surface n side ns store c).answer.reply
 
-gave-nothing : (n s : ℕ) (ns : List ℕ) (store : List Float) (c : Call) → passed (replyTo n s ns store c) ≡ false
-    → gaveOf s ns (surface n s ns store c) ≡ bare (recordIn s ns) (get (share_of s) store)
-gave-nothing n s ns store c p = let k = refused-leaves n s ns store c p in rw (p, k.1, k.2)
+gave_nothing : (n s : ℕ) (ns : List ℕ) (store : List Float) (c : Call) → passed (reply_to n s ns store c) ≡ false
+    → gave_of s ns (surface n s ns store c) ≡ bare (record_in s ns) (get (share_of s) store)
+gave_nothing n s ns store c p = let k = refused_leaves n s ns store c p in rw (p, k.1, k.2)
 
 -- samples that a bench's feed says, behind those that wait
 pub record Says (b : Record) (samples : List Float) : Type 0 where
@@ -72,54 +72,54 @@ pub record Says (b : Record) (samples : List Float) : Type 0 where
 module _ (n s : ℕ) (inside : s < n) (ns : List ℕ) (store : List Float) (l : length store ≡ n * SHARE) (b : Block)
     (model : List ℕ) (cleaned records answers : ℕ) where
   abbrev rec : Record
-  rec = recordIn s ns
+  rec = record_in s ns
 
   abbrev share : List Float
   share = get (share_of s) store
 
   abbrev taken : Effect Answer
-  taken = whole.take n s rec store (samplesOf b) model ROOM answers
+  taken = whole.take n s rec store (samples_of b) model ROOM answers
 
   -- where it is done, it is what comes of its take
-  fed-is : passed (feeding.feed n s rec store b model cleaned records answers).answer.reply ≡ true
-      → (feeding.feed n s rec store b model cleaned records answers ≡ fedBy (side_of s) rec.frame taken)
-      × (passed (takeReply n s rec store (samplesOf b) model ROOM answers) ≡ true)
+  fed_is : passed (feeding.feed n s rec store b model cleaned records answers).answer.reply ≡ true
+      → (feeding.feed n s rec store b model cleaned records answers ≡ fed_by (side_of s) rec.frame taken)
+      × (passed (take_reply n s rec store (samples_of b) model ROOM answers) ≡ true)
   unfolding feeding.feed
-  fed-is =
-      by_rows (λ r. refusal (record { reply = Refused r; rec = rec }) store) (fedBy (side_of s) rec.frame taken)
+  fed_is =
+      by_rows (λ r. refusal (record { reply = Refused r; rec = rec }) store) (fed_by (side_of s) rec.frame taken)
       (λ (o : Effect Answer). passed o.answer.reply ≡ true
-      → (o ≡ fedBy (side_of s) rec.frame taken)
-      × (passed (takeReply n s rec store (samplesOf b) model ROOM answers) ≡ true))
-      (feedRows (gate n s rec (length store) PIECE) rec.waiting (blockSize b) cleaned records answers)
+      → (o ≡ fed_by (side_of s) rec.frame taken)
+      × (passed (take_reply n s rec store (samples_of b) model ROOM answers) ≡ true))
+      (feed_rows (gate n s rec (length store) PIECE) rec.waiting (block_size b) cleaned records answers)
       (λ _ p. absurd (false≢true p))
       (λ _ p. (
         refl,
-        take_by n s (samplesOf b) model rec store ROOM answers
+        take_by n s (samples_of b) model rec store ROOM answers
             (λ (o : Effect Answer). passed o.answer.reply ≡ true
-            → passed (takeReply n s rec store (samplesOf b) model ROOM answers) ≡ true) (λ q _. q) (λ _ q. q) p,
+            → passed (take_reply n s rec store (samples_of b) model ROOM answers) ≡ true) (λ q _. q) (λ _ q. q) p,
       ))
 
-  taken_is : passed (takeReply n s rec store (samplesOf b) model ROOM answers) ≡ true
-      → taken ≡ placed s store (takenOn rec share (samplesOf b) model)
+  taken_is : passed (take_reply n s rec store (samples_of b) model ROOM answers) ≡ true
+      → taken ≡ placed s store (taken_on rec share (samples_of b) model)
   unfolding whole.take
   taken_is p = rw p
 
-  gave-said : passed (feeding.feed n s rec store b model cleaned records answers).answer.reply ≡ true
-      → Says rec (samplesOf b)
-      × (gaveOf s ns (feeding.feed n s rec store b model cleaned records answers)
-      ≡ hasSaid (side_of s) rec share (samplesOf b) model)
-  gave-said p =
-      let f = fed-is p in
-      let d = dictationOf rec share (samplesOf b) model in
-      let sizes = fits-sizes rec.waiting (length (samplesOf b)) ROOM 22
-      (take-accepted n s rec store (samplesOf b) model ROOM answers f.1).fits in
-      let full : length share ≡ SHARE = length-get (share_of s) store (omega arith) in
+  gave_said : passed (feeding.feed n s rec store b model cleaned records answers).answer.reply ≡ true
+      → Says rec (samples_of b)
+      × (gave_of s ns (feeding.feed n s rec store b model cleaned records answers)
+      ≡ has_said (side_of s) rec share (samples_of b) model)
+  gave_said p =
+      let f = fed_is p in
+      let d = dictation_of rec share (samples_of b) model in
+      let sizes = fits_sizes rec.waiting (length (samples_of b)) ROOM 22
+      (take_accepted n s rec store (samples_of b) model ROOM answers f.1).fits in
+      let full : length share ≡ SHARE = length_get (share_of s) store (omega arith) in
       let back : get (share_of s) (put (share_of s) store d.kept) ≡ d.kept =
-      get-put (share_of s) store d.kept (omega arith)
-      (share-size rec share (waitingIn rec.waiting share ++ samplesOf b)
-      (lentToEach rec (samplesOf b) model) full) in (
+      get_put (share_of s) store d.kept (omega arith)
+      (share_size rec share (waiting_in rec.waiting share ++ samples_of b)
+      (lent_to_each rec (samples_of b) model) full) in (
         record { waits = sizes.0; some = sizes.1 },
-        ap (gaveOf s ns) f.0 ∙ ap (λ (g : Effect Answer). gaveOf s ns (fedBy (side_of s) rec.frame g))
+        ap (gave_of s ns) f.0 ∙ ap (λ (g : Effect Answer). gave_of s ns (fed_by (side_of s) rec.frame g))
             (taken_is f.1) ∙ rw (back, reads s d.rec),
       )
 
@@ -143,13 +143,13 @@ Comes side (ask a ∷ more) b xs h = Unit
 Comes side (frame x m o ∷ more) b xs h = Unit
 Comes side (take x m o a ∷ more) b xs h = Unit
 Comes side (feed k model c e a ∷ more) b xs h =
-    (rest : Has) × Says b (samplesOf k)
-    × (let d = dictationOf b xs (samplesOf k) model in Comes side more d.rec d.kept rest)
-    × (h ≡ ahead (hasSaid side b xs (samplesOf k) model) rest)
+    (rest : Has) × Says b (samples_of k)
+    × (let d = dictation_of b xs (samples_of k) model in Comes side more d.rec d.kept rest)
+    × (h ≡ ahead (has_said side b xs (samples_of k) model) rest)
 
 module _ (n s : ℕ) (inside : s < n) where
   abbrev Runs : List (On Call) → State → Type 0
-  Runs cs st = (b : Record) (xs : List Float) → recordAt s st ≡ b → get (share_of s) st.store ≡ xs
+  Runs cs st = (b : Record) (xs : List Float) → record_at s st ≡ b → get (share_of s) st.store ≡ xs
       → Comes (side_of s) (done surface n s st cs) b xs (has_of n s st cs)
 
   -- a call of its own, and those that follow
@@ -158,46 +158,46 @@ module _ (n s : ℕ) (inside : s < n) where
     next = after surface n st (on s c)
 
     abbrev reply : Reply
-    reply = replyTo n s (st.numbers s) st.store c
+    reply = reply_to n s (st.numbers s) st.store c
 
     abbrev gave : Effect Answer
     gave = surface n s (st.numbers s) st.store c
 
-    numbers-are : (after surface n st (on s c)).numbers s
+    numbers_are : (after surface n st (on s c)).numbers s
         ≡ (returned s (st.numbers s) (surface n s (st.numbers s) st.store c)).numbers
-    numbers-are = rw (eq-eqb s s refl)
+    numbers_are = rw (eq-eqb s s refl)
 
-    done-are : done surface n s st (on s c ∷ cs)
-        ≡ cond (passed (replyTo n s (st.numbers s) st.store c)) (c ∷ done surface n s next cs)
+    done_are : done surface n s st (on s c ∷ cs)
+        ≡ cond (passed (reply_to n s (st.numbers s) st.store c)) (c ∷ done surface n s next cs)
         (done surface n s next cs)
     unfolding done
-    done-are = rw (eq-eqb s s refl, ← (zero-is-done n s (st.numbers s) st.store c).0)
+    done_are = rw (eq-eqb s s refl, ← (zero_is_done n s (st.numbers s) st.store c).0)
 
-    has-are : has_of n s st (on s c ∷ cs) ≡ ahead (gaveOf s (st.numbers s) gave) (has_of n s next cs)
+    has_are : has_of n s st (on s c ∷ cs) ≡ ahead (gave_of s (st.numbers s) gave) (has_of n s next cs)
     unfolding received ended
-    has-are = rw (eq-eqb s s refl)
+    has_are = rw (eq-eqb s s refl)
 
-  own-done : (c : Call) (rest : List Call) (h : Has) (ns : List ℕ) (store : List Float) → length store ≡ n * SHARE
-      → passed (replyTo n s ns store c) ≡ true
-      → ((b : Record) (xs : List Float) → (gaveOf s ns (surface n s ns store c)).rec ≡ b
-      → (gaveOf s ns (surface n s ns store c)).share ≡ xs → Comes (side_of s) rest b xs h)
-      → Comes (side_of s) (c ∷ rest) (recordIn s ns) (get (share_of s) store)
-      (ahead (gaveOf s ns (surface n s ns store c)) h)
-  unfolding Comes hostedFeed
-  own-done (ask a) rest h ns store l p ih = tt
-  own-done (frame x m o) rest h ns store l p ih = tt
-  own-done (take x m o a) rest h ns store l p ih = tt
-  own-done (feed k model cleaned records answers) rest h ns store l p ih =
-      let t = gave-said n s inside ns store l k model cleaned records answers p in (
+  own_done : (c : Call) (rest : List Call) (h : Has) (ns : List ℕ) (store : List Float) → length store ≡ n * SHARE
+      → passed (reply_to n s ns store c) ≡ true
+      → ((b : Record) (xs : List Float) → (gave_of s ns (surface n s ns store c)).rec ≡ b
+      → (gave_of s ns (surface n s ns store c)).share ≡ xs → Comes (side_of s) rest b xs h)
+      → Comes (side_of s) (c ∷ rest) (record_in s ns) (get (share_of s) store)
+      (ahead (gave_of s ns (surface n s ns store c)) h)
+  unfolding Comes hosted_feed
+  own_done (ask a) rest h ns store l p ih = tt
+  own_done (frame x m o) rest h ns store l p ih = tt
+  own_done (take x m o a) rest h ns store l p ih = tt
+  own_done (feed k model cleaned records answers) rest h ns store l p ih =
+      let t = gave_said n s inside ns store l k model cleaned records answers p in (
         h,
         t.0,
         ih _ _ (ap (λ (x : Has). x.rec) t.1) (ap (λ (x : Has). x.share) t.1),
         ap (λ (x : Has). ahead x h) t.1,
       )
 
-  own-call : (c : Call) (cs : List (On Call)) (st : State) → length st.store ≡ n * SHARE
+  own_call : (c : Call) (cs : List (On Call)) (st : State) → length st.store ≡ n * SHARE
       → Runs cs (after surface n st (on s c)) → Runs (on s c ∷ cs) st
-  own-call c cs st l ih b xs e f = rw (← e, ← f, done-are c cs st, has-are c cs st) (go (passed (reply c cs st)) refl)
+  own_call c cs st l ih b xs e f = rw (← e, ← f, done_are c cs st, has_are c cs st) (go (passed (reply c cs st)) refl)
     where
       rest : List Call
       rest = done surface n s (next c cs st) cs
@@ -205,39 +205,39 @@ module _ (n s : ℕ) (inside : s < n) where
       h : Has
       h = has_of n s (next c cs st) cs
 
-      mine : recordIn s ((next c cs st).numbers s) ≡ recordIn s (returned s (st.numbers s) (gave c cs st)).numbers
-      mine = ap (recordIn s) (numbers-are c cs st)
+      mine : record_in s ((next c cs st).numbers s) ≡ record_in s (returned s (st.numbers s) (gave c cs st)).numbers
+      mine = ap (record_in s) (numbers_are c cs st)
 
       go : (t : Bool) → passed (reply c cs st) ≡ t
-          → Comes (side_of s) (cond t (c ∷ rest) rest) (recordIn s (st.numbers s)) (get (share_of s) st.store)
-          (ahead (gaveOf s (st.numbers s) (gave c cs st)) h)
-      go true p = own-done c rest h (st.numbers s) st.store l p (λ b' xs' e' f'. ih b' xs' (mine ∙ e') f')
+          → Comes (side_of s) (cond t (c ∷ rest) rest) (record_in s (st.numbers s)) (get (share_of s) st.store)
+          (ahead (gave_of s (st.numbers s) (gave c cs st)) h)
+      go true p = own_done c rest h (st.numbers s) st.store l p (λ b' xs' e' f'. ih b' xs' (mine ∙ e') f')
       go false p =
-          let k = gave-nothing n s (st.numbers s) st.store c p in
+          let k = gave_nothing n s (st.numbers s) st.store c p in
           subst (λ (x : Has).
-          Comes (side_of s) rest (recordIn s (st.numbers s)) (get (share_of s) st.store) (ahead x h)) (sym k)
-          (ih (recordIn s (st.numbers s)) (get (share_of s) st.store) (mine ∙ ap (λ (x : Has). x.rec) k)
+          Comes (side_of s) rest (record_in s (st.numbers s)) (get (share_of s) st.store) (ahead x h)) (sym k)
+          (ih (record_in s (st.numbers s)) (get (share_of s) st.store) (mine ∙ ap (λ (x : Has). x.rec) k)
           (ap (λ (x : Has). x.share) k))
 
-  other-call : (side : ℕ) → eqb side s ≡ false → (c : Call) (cs : List (On Call)) (st : State)
+  other_call : (side : ℕ) → eqb side s ≡ false → (c : Call) (cs : List (On Call)) (st : State)
       → length st.store ≡ n * SHARE
       → Runs cs (after surface n st (on side c)) → Runs (on side c ∷ cs) st
   unfolding done received ended
-  other-call side t c cs st l ih b xs e f =
+  other_call side t c cs st l ih b xs e f =
       rw t
       (ih b xs (rw t e) ((beside surface owned n side (st.numbers side) st.store c l).1 s (eqb-false side s t) ∙ f))
 
-  pub lone-run : (cs : List (On Call)) (st : State) → length st.store ≡ n * SHARE → Runs cs st
+  pub lone_run : (cs : List (On Call)) (st : State) → length st.store ≡ n * SHARE → Runs cs st
   unfolding done received ended Comes
-  lone-run [] st l = λ b xs e f. ap₂ bare e f
-  lone-run (c ∷ cs) st l =
+  lone_run [] st l = λ b xs e f. ap₂ bare e f
+  lone_run (c ∷ cs) st l =
       go (eqb c.side s) refl
-      (lone-run cs (after surface n st c)
+      (lone_run cs (after surface n st c)
       (beside surface owned n c.side (st.numbers c.side) st.store c.call l).0)
     where
       go : (t : Bool) → eqb c.side s ≡ t → Runs cs (after surface n st (on c.side c.call))
           → Runs (on c.side c.call ∷ cs) st
       go true t =
           subst (λ (k : ℕ). Runs cs (after surface n st (on k c.call)) → Runs (on k c.call ∷ cs) st)
-          (sym (eqb-true c.side s t)) (own-call c.call cs st l)
-      go false t = other-call c.side t c.call cs st l
+          (sym (eqb-true c.side s t)) (own_call c.call cs st l)
+      go false t = other_call c.side t c.call cs st l

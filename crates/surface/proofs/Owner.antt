@@ -12,8 +12,8 @@ use Rattle.frame.specs.Share.{SHARE}
 use Rattle.desk.specs.declared.Answer.{Answer}
 use Rattle.desk.specs.declared.Record.{Record}
 use Rattle.desk.specs.Gate.{in_range, gate}
-use Rattle.desk.specs.Desk.{Ask, opening, recordOf, noHearing, desk}
-use Rattle.desk.specs.Surface.{numbersOf, recordIn, handedBack, handed, hosted}
+use Rattle.desk.specs.Desk.{Ask, opening, record_of, no_hearing, desk}
+use Rattle.desk.specs.Surface.{numbers_of, record_in, handed_back, handed, hosted}
 use Rattle.desk.proofs.Ranged.{left_open}
 use Rattle.isolation.specs.Local.{Local, performed}
 use Rattle.isolation.specs.Run.{On, on, State, after, ended, desks, expand}
@@ -28,16 +28,16 @@ use Rattle.surface.proofs.Expanded.{expands}
 -- these are the numbers of an open record of the bench
 record Open (bench : ℕ) (ns : List ℕ) : Type 0 where
   rec : Record
-  numbers : ns ≡ numbersOf bench rec
+  numbers : ns ≡ numbers_of bench rec
   ajar : rec.due ≡ 0 → ⊥
 
 module _ (n bench : ℕ) where
   -- behind a call of the bench that is done
-  done-open : (st : State) (a : Ask) → passed (hosted n bench (st.numbers bench) st.store a).answer.reply ≡ true
-      → Open bench (handedBack bench (hosted n bench (st.numbers bench) st.store a).answer (st.numbers bench))
+  done_open : (st : State) (a : Ask) → passed (hosted n bench (st.numbers bench) st.store a).answer.reply ≡ true
+      → Open bench (handed_back bench (hosted n bench (st.numbers bench) st.store a).answer (st.numbers bench))
   unfolding hosted
-  done-open st a p =
-      let rec = recordIn bench (st.numbers bench) in
+  done_open st a p =
+      let rec = record_in bench (st.numbers bench) in
       record {
         rec = (desk n bench rec st.store a).answer.rec;
         numbers = rw p;
@@ -51,14 +51,14 @@ module _ (n bench : ℕ) where
     where
       own : c.side ≡ bench → (t : Bool)
           → passed (hosted n bench (st.numbers bench) st.store c.call).answer.reply ≡ t
-          → Open bench (handedBack c.side (hosted n c.side (st.numbers c.side) st.store c.call).answer
+          → Open bench (handed_back c.side (hosted n c.side (st.numbers c.side) st.store c.call).answer
           (st.numbers c.side))
-      own e true p = rw e (done-open st c.call p)
+      own e true p = rw e (done_open st c.call p)
       own e false p = rw (e, p) o
 
       go : (t : Bool) → eqb c.side bench ≡ t
           → Open bench
-          (cond t (handedBack c.side (hosted n c.side (st.numbers c.side) st.store c.call).answer
+          (cond t (handed_back c.side (hosted n c.side (st.numbers c.side) st.store c.call).answer
           (st.numbers c.side)) (st.numbers bench))
       go true e =
           own (eqb-true c.side bench e)
@@ -75,11 +75,11 @@ module _ (n bench : ℕ) where
 
 -- a record out of range, as such numbers are read
 abbrev nobodys : Record
-nobodys = recordOf 5 noHearing 0 0
+nobodys = record_of 5 no_hearing 0 0
 
-not-its-own : (side bench : ℕ) (ns : List ℕ) → Open bench ns → (side ≡ bench → ⊥) → recordIn side ns ≡ nobodys
-unfolding recordIn
-not-its-own side bench ns o other =
+not_its_own : (side bench : ℕ) (ns : List ℕ) → Open bench ns → (side ≡ bench → ⊥) → record_in side ns ≡ nobodys
+unfolding record_in
+not_its_own side bench ns o other =
     let b = o.rec in
     rw (
       o.numbers,
@@ -96,22 +96,22 @@ shut n side len call inside = rw (lt-ltb side n inside) (go (eqb len (n * SHARE)
     go true = refl
     go false = refl
 
-pub only-its-own : OnlyItsOwn
+pub only_its_own : OnlyItsOwn
 unfolding ended performed
-only-its-own n bench st way model p calls side inside other store c =
+only_its_own n bench st way model p calls side inside other store c =
     let first = on bench (ask (opening way model)) in
     let then = after surface n st first in
     let ns = (ended surface n then calls).numbers bench in
     let o : Open bench ns = rw (expands n then calls)
-    (stays_open n bench (expand surface made_of n then calls) then (step-first (eqb bench bench) refl)) in
+    (stays_open n bench (expand surface made_of n then calls) then (step_first (eqb bench bench) refl)) in
     let l = owned.local c in
     ap (handed side ns) (owned.does n side ns store c)
-    ∙ ap (λ (b : Record). handed side ns (performed n side b store l)) (not-its-own side bench ns o other)
+    ∙ ap (λ (b : Record). handed side ns (performed n side b store l)) (not_its_own side bench ns o other)
     ∙ rw (shut n side (length store) l.call inside)
   where
-    step-first : (t : Bool) → eqb bench bench ≡ t
+    step_first : (t : Bool) → eqb bench bench ≡ t
         → Open bench
-        (cond t (handedBack bench (hosted n bench (st.numbers bench) st.store (opening way model)).answer
+        (cond t (handed_back bench (hosted n bench (st.numbers bench) st.store (opening way model)).answer
         (st.numbers bench)) (st.numbers bench))
-    step-first true e = done-open n bench st (opening way model) p
-    step-first false e = absurd (eqb-false bench bench e refl)
+    step_first true e = done_open n bench st (opening way model) p
+    step_first false e = absurd (eqb-false bench bench e refl)

@@ -13,7 +13,7 @@ use borrow.Author.Tests.{eq-eqb, eqb-true}
 use Rattle.rules.specs.F32.{zeros}
 use Rattle.rules.specs.Place.{get, put}
 use Rattle.rules.specs.Refusals.{Row, refusing}
-use Rattle.rules.proofs.Places.{length-get, put-get}
+use Rattle.rules.proofs.Places.{length_get, put_get}
 use Rattle.rules.proofs.Refusals.{along, by_rows}
 use Rattle.model.specs.Model.{read_of}
 use Rattle.model.specs.declared.Reading.{Reading}
@@ -22,38 +22,38 @@ use Rattle.frame.specs.Effect.{Effect, refusal}
 use Rattle.frame.specs.declared.Reply.{Reply}
 use Rattle.frame.specs.declared.Reply.TheVariants.{Refused}
 use Rattle.frame.specs.declared.Way.{Way}
-use Rattle.frame.specs.Reply.{passed, ◌refusedIf◌, firstRefusal}
+use Rattle.frame.specs.Reply.{passed, ◌refusedIf◌, first_refusal}
 use Rattle.frame.specs.Share.{SHARE}
-use Rattle.pieces.specs.Pieces.{waitingIn}
-use Rattle.pieces.proofs.Halved.{first-length, second-length}
-use Rattle.pieces.proofs.Shares.{part_length, frame-length}
+use Rattle.pieces.specs.Pieces.{waiting_in}
+use Rattle.pieces.proofs.Halved.{first_length, second_length}
+use Rattle.pieces.proofs.Shares.{part_length, frame_length}
 use Rattle.desk.specs.declared.Answer.{Answer}
 use Rattle.desk.specs.declared.Record.{Record}
 use Rattle.desk.specs.Gate.{BENCHES, PIECE, side_of, gate, share_of}
-use Rattle.desk.specs.Desk.{Ask, opening, call1, call2, call2Own, call3, call4, firstHalf, secondHalf, piece, resume}
-use Rattle.desk.specs.Desk.{call_of, closed, answered, opened, onShare, desk}
-use Rattle.desk.specs.Surface.{numbersOf, recordIn, besides, telling, hosted}
+use Rattle.desk.specs.Desk.{Ask, opening, call1, call2, call2_own, call3, call4, first_half, second_half, piece, resume}
+use Rattle.desk.specs.Desk.{call_of, closed, answered, opened, on_share, desk}
+use Rattle.desk.specs.Surface.{numbers_of, record_in, besides, telling, hosted}
 use Rattle.desk.specs.Laws.{placed, AnsweredAlike}
 use Rattle.desk.proofs.Answered.{refused, given_of}
 use Rattle.desk.proofs.Apart.{its_own, anew}
-use Rattle.desk.proofs.Kept.{admitted-kept}
-use Rattle.dictation.specs.Dictation.{frameOn}
-use Rattle.dictation.proofs.Joins.{share-size}
-use Rattle.whole.specs.Whole.{ourLent, replyOf, unlessRefused, frameRows, frameReply, takeRows, takeReply, lentToEach}
-use Rattle.whole.specs.Whole.{takenOn}
+use Rattle.desk.proofs.Kept.{admitted_kept}
+use Rattle.dictation.specs.Dictation.{frame_on}
+use Rattle.dictation.proofs.Joins.{share_size}
+use Rattle.whole.specs.Whole.{our_lent, reply_of, unless_refused, frame_rows, frame_reply, take_rows, take_reply, lent_to_each}
+use Rattle.whole.specs.Whole.{taken_on}
 use Rattle.whole.specs.Whole as whole
-use Rattle.whole.specs.Surface.{hostedFrame, hostedTake}
-use Rattle.feed.specs.Feed.{Block, ROOM, blockSize, samplesOf, feedRows, fedBy}
+use Rattle.whole.specs.Surface.{hosted_frame, hosted_take}
+use Rattle.feed.specs.Feed.{Block, ROOM, block_size, samples_of, feed_rows, fed_by}
 use Rattle.feed.specs.Feed as feeds
-use Rattle.feed.specs.Surface.{hostedFeed}
+use Rattle.feed.specs.Surface.{hosted_feed}
 use Rattle.isolation.specs.Local.{Local, performed}
 use Rattle.isolation.specs.Isolation.{own, Owned}
 use Rattle.isolation.specs.Run.{on}
-use Rattle.isolation.proofs.Performed.{lonely, one-bench}
+use Rattle.isolation.proofs.Performed.{lonely, one_bench}
 use Rattle.isolation.proofs.Runs.{reads}
-use Rattle.isolation.proofs.Isolated.{alone-does, lone, next, in-any-run, alone-lone, isolated, undisturbed}
+use Rattle.isolation.proofs.Isolated.{alone_does, lone, next, in_any_run, alone_lone, isolated, undisturbed}
 use Rattle.surface.specs.Surface.{Call, ask, frame, take, feed, surface, OurSurface, Anew}
-use Rattle.surface.proofs.Refusing.{nor-besides}
+use Rattle.surface.proofs.Refusing.{nor_besides}
 
 -- refused, with this reply
 abbrev unchanged : Reply → Record → List Float → Effect Answer
@@ -62,14 +62,14 @@ unchanged reply b store = refusal (record { reply = reply; rec = b }) store
 -- ---- a call of the desk
 
 module _ (a : Ask) where
-  abbrev askWork : Record → List Float → Effect Answer
-  askWork b share =
-      let o = given_of b a (onShare b share a) in
+  abbrev ask_work : Record → List Float → Effect Answer
+  ask_work b share =
+      let o = given_of b a (on_share b share a) in
       record { answer = o.answer; kept = o.kept; written = o.written ++ besides a o.answer.reply }
 
-opening-blind : (w : Way) (m : List ℕ) (b : Record) (xs ys : List Float) → b.due ≡ 0
-    → AnsweredAlike (askWork (opening w m) b xs) (askWork (opening w m) b ys)
-opening-blind w m b xs ys d = go (read_of m)
+opening_blind : (w : Way) (m : List ℕ) (b : Record) (xs ys : List Float) → b.due ≡ 0
+    → AnsweredAlike (ask_work (opening w m) b xs) (ask_work (opening w m) b ys)
+opening_blind w m b xs ys d = go (read_of m)
   where
     given : List Float → Reading → Effect Answer
     given share read =
@@ -80,36 +80,36 @@ opening-blind w m b xs ys d = go (read_of m)
     go (Good m) = record { answer = refl; written = refl; store = inl refl }
     go (Unread n l) = record { answer = refl; written = refl; store = inr d }
 
-ask-blind : (a : Ask) → call_of a ≡ 0 → (b : Record) (xs ys : List Float) → b.due ≡ 0
-    → AnsweredAlike (askWork a b xs) (askWork a b ys)
-ask-blind (opening w m) e b xs ys d = opening-blind w m b xs ys d
-ask-blind (call1 x w) e b xs ys d = absurd (omega arith)
-ask-blind (call2 x g w s) e b xs ys d = absurd (omega arith)
-ask-blind (call2Own x w s) e b xs ys d = absurd (omega arith)
-ask-blind (call3 x g m o) e b xs ys d = absurd (omega arith)
-ask-blind (call4 x o) e b xs ys d = absurd (omega arith)
-ask-blind (firstHalf x s) e b xs ys d = absurd (omega arith)
-ask-blind (secondHalf g m o) e b xs ys d = absurd (omega arith)
-ask-blind (piece x o s) e b xs ys d = absurd (omega arith)
-ask-blind (resume x g m o s) e b xs ys d = absurd (omega arith)
+ask_blind : (a : Ask) → call_of a ≡ 0 → (b : Record) (xs ys : List Float) → b.due ≡ 0
+    → AnsweredAlike (ask_work a b xs) (ask_work a b ys)
+ask_blind (opening w m) e b xs ys d = opening_blind w m b xs ys d
+ask_blind (call1 x w) e b xs ys d = absurd (omega arith)
+ask_blind (call2 x g w s) e b xs ys d = absurd (omega arith)
+ask_blind (call2_own x w s) e b xs ys d = absurd (omega arith)
+ask_blind (call3 x g m o) e b xs ys d = absurd (omega arith)
+ask_blind (call4 x o) e b xs ys d = absurd (omega arith)
+ask_blind (first_half x s) e b xs ys d = absurd (omega arith)
+ask_blind (second_half g m o) e b xs ys d = absurd (omega arith)
+ask_blind (piece x o s) e b xs ys d = absurd (omega arith)
+ask_blind (resume x g m o s) e b xs ys d = absurd (omega arith)
 
 unfoldable asking : Ask → Local
 asking a =
     record {
       call = call_of a;
-      work = λ _. askWork a;
-      sized = λ _ b share k. (admitted-kept b share a 0).size k;
-      blind = λ e _. ask-blind a e;
+      work = λ _. ask_work a;
+      sized = λ _ b share k. (admitted_kept b share a 0).size k;
+      blind = λ e _. ask_blind a e;
     }
 
 -- what the desk gives, with what a host is told besides
-abbrev withBesides : Ask → Effect Answer → Effect Answer
-withBesides a o = record { answer = o.answer; kept = o.kept; written = o.written ++ besides a o.answer.reply }
+abbrev with_besides : Ask → Effect Answer → Effect Answer
+with_besides a o = record { answer = o.answer; kept = o.kept; written = o.written ++ besides a o.answer.reply }
 
-desk-does : (a : Ask) (n side : ℕ) (b : Record) (store : List Float)
-    → withBesides a (desk n side b store a) ≡ performed n side b store (asking a)
+desk_does : (a : Ask) (n side : ℕ) (b : Record) (store : List Float)
+    → with_besides a (desk n side b store a) ≡ performed n side b store (asking a)
 unfolding performed asking desk
-desk-does a n side b store = go (eqb number 0)
+desk_does a n side b store = go (eqb number 0)
   where
     share : List Float
     share = get (share_of side) store
@@ -125,43 +125,43 @@ desk-does a n side b store = go (eqb number 0)
           written = f.written ++ besides a (answered b a f.answer).reply;
         }
 
-    go : (t : Bool) → told (cond t (onShare b share a) (refusal (Refused number) share))
-        ≡ cond t (placed side store (askWork a b share)) (unchanged (Refused number) b store)
+    go : (t : Bool) → told (cond t (on_share b share a) (refusal (Refused number) share))
+        ≡ cond t (placed side store (ask_work a b share)) (unchanged (Refused number) b store)
     go true = refl
-    go false = rw (refused b a number, put-get (share_of side) store, nor-besides a (Refused number) refl)
+    go false = rw (refused b a number, put_get (share_of side) store, nor_besides a (Refused number) refl)
 
-ask-does : (a : Ask) (n side : ℕ) (ns : List ℕ) (store : List Float)
-    → hosted n side ns store a ≡ performed n side (recordIn side ns) store (asking a)
+ask_does : (a : Ask) (n side : ℕ) (ns : List ℕ) (store : List Float)
+    → hosted n side ns store a ≡ performed n side (record_in side ns) store (asking a)
 unfolding hosted
-ask-does a n side ns store = desk-does a n side (recordIn side ns) store
+ask_does a n side ns store = desk_does a n side (record_in side ns) store
 
 -- ---- a call after a table of its own: the gate's row, and these on the record and the share
 
 module _ (call : ℕ) (some : call ≡ 0 → ⊥) (rows : Record → List Float → List Reply)
     (work : Record → List Float → Effect Answer)
     (size : (b : Record) (share : List Float) → length share ≡ SHARE → length (work b share).kept ≡ SHARE) where
-  abbrev tableWork : Record → List Float → Effect Answer
-  tableWork b share = let r = firstRefusal (rows b share) in cond (passed r) (work b share) (unchanged r b share)
+  abbrev table_work : Record → List Float → Effect Answer
+  table_work b share = let r = first_refusal (rows b share) in cond (passed r) (work b share) (unchanged r b share)
 
-  table-sized : (b : Record) (share : List Float) → length share ≡ SHARE → length (tableWork b share).kept ≡ SHARE
-  table-sized b share k = go (passed r)
+  table_sized : (b : Record) (share : List Float) → length share ≡ SHARE → length (table_work b share).kept ≡ SHARE
+  table_sized b share k = go (passed r)
     where
       r : Reply
-      r = firstRefusal (rows b share)
+      r = first_refusal (rows b share)
 
       go : (t : Bool) → length (cond t (work b share) (unchanged r b share)).kept ≡ SHARE
       go true = size b share k
       go false = k
 
   unfoldable tabled : Local
-  tabled = record { call = call; work = λ _. tableWork; sized = λ _. table-sized; blind = λ z. absurd (some z) }
+  tabled = record { call = call; work = λ _. table_work; sized = λ _. table_sized; blind = λ z. absurd (some z) }
 
   module _ (n side : ℕ) (b : Record) (store : List Float) where
     abbrev number : ℕ
     number = gate n side b (length store) call
 
-    table_does : unlessRefused
-        (replyOf (gate n side b (length store) call) (rows b (get (share_of side) store))) side b store
+    table_does : unless_refused
+        (reply_of (gate n side b (length store) call) (rows b (get (share_of side) store))) side b store
         (work b (get (share_of side) store))
         ≡ performed n side b store tabled
     unfolding performed tabled
@@ -171,41 +171,41 @@ module _ (call : ℕ) (some : call ≡ 0 → ⊥) (rows : Record → List Float 
         share = get (share_of side) store
 
         r : Reply
-        r = firstRefusal (rows b share)
+        r = first_refusal (rows b share)
 
         go : (t u : Bool) → passed r ≡ u
             → let row = number refusedIf not t in
-            unlessRefused (cond (passed row) r row) side b store (work b share)
+            unless_refused (cond (passed row) r row) side b store (work b share)
             ≡ cond t (placed side store (cond u (work b share) (unchanged r b share)))
             (unchanged (Refused number) b store)
         go true true e = rw e
-        go true false e = rw (e, put-get (share_of side) store)
+        go true false e = rw (e, put_get (share_of side) store)
         go false u e = refl
 
     -- let through
-    table-inside : gate n side b (length store) call ≡ 0
-        → performed n side b store tabled ≡ placed side store (tableWork b (get (share_of side) store))
+    table_inside : gate n side b (length store) call ≡ 0
+        → performed n side b store tabled ≡ placed side store (table_work b (get (share_of side) store))
     unfolding performed tabled
-    table-inside z = rw (eq-eqb number 0 z)
+    table_inside z = rw (eq-eqb number 0 z)
 
 -- ---- a frame
 
 module _ (samples : List Float) (model : List ℕ) (out : ℕ) where
-  abbrev frameWork : Record → List Float → Effect Answer
-  frameWork b share = telling (frameOn b share samples (ourLent model))
+  abbrev frame_work : Record → List Float → Effect Answer
+  frame_work b share = telling (frame_on b share samples (our_lent model))
 
-  frame-size : (b : Record) (share : List Float) → length share ≡ SHARE → length (frameWork b share).kept ≡ SHARE
-  frame-size b share k =
-      frame-length share k _ (second-length _ b.hearing _ model 480
-      (first-length _ b.hearing.way samples 22 (part_length share k)))
+  frame_size : (b : Record) (share : List Float) → length share ≡ SHARE → length (frame_work b share).kept ≡ SHARE
+  frame_size b share k =
+      frame_length share k _ (second_length _ b.hearing _ model 480
+      (first_length _ b.hearing.way samples 22 (part_length share k)))
 
   framing : Local
-  framing = tabled 1 (λ z. omega arith) (λ b _. frameRows b samples model out) frameWork frame-size
+  framing = tabled 1 (λ z. omega arith) (λ b _. frame_rows b samples model out) frame_work frame_size
 
   -- of a refusal nothing is told besides
-  telling-in : (reply : Reply) (side : ℕ) (b : Record) (store : List Float) (o : Effect Answer)
-      → telling (unlessRefused reply side b store o) ≡ unlessRefused reply side b store (telling o)
-  telling-in reply side b store o = go (passed reply) refl
+  telling_in : (reply : Reply) (side : ℕ) (b : Record) (store : List Float) (o : Effect Answer)
+      → telling (unless_refused reply side b store o) ≡ unless_refused reply side b store (telling o)
+  telling_in reply side b store o = go (passed reply) refl
     where
       go : (t : Bool) → passed reply ≡ t
           → telling (cond t (placed side store o) (unchanged reply b store))
@@ -213,80 +213,80 @@ module _ (samples : List Float) (model : List ℕ) (out : ℕ) where
       go true e = refl
       go false e = rw e
 
-  frame-does : (n side : ℕ) (b : Record) (store : List Float)
+  frame_does : (n side : ℕ) (b : Record) (store : List Float)
       → telling (whole.frame n side b store samples model out) ≡ performed n side b store framing
-  unfolding whole.frame frameReply framing tabled
-  frame-does n side b store =
-      telling-in (replyOf (gate n side b (length store) 1) (frameRows b samples model out)) side b store
-      (frameOn b (get (share_of side) store) samples (ourLent model))
-      ∙ table_does 1 (λ z. omega arith) (λ b _. frameRows b samples model out) frameWork frame-size n side b store
+  unfolding whole.frame frame_reply framing tabled
+  frame_does n side b store =
+      telling_in (reply_of (gate n side b (length store) 1) (frame_rows b samples model out)) side b store
+      (frame_on b (get (share_of side) store) samples (our_lent model))
+      ∙ table_does 1 (λ z. omega arith) (λ b _. frame_rows b samples model out) frame_work frame_size n side b store
 
 -- ---- a take: the dictation of its samples
 
 module _ (samples : List Float) (model : List ℕ) (out answers : ℕ) where
-  abbrev said-size : (b : Record) (share : List Float) → length share ≡ SHARE
-      → length (takenOn b share samples model).kept ≡ SHARE
-  said-size b share k = share-size b share (waitingIn b.waiting share ++ samples) (lentToEach b samples model) k
+  abbrev said_size : (b : Record) (share : List Float) → length share ≡ SHARE
+      → length (taken_on b share samples model).kept ≡ SHARE
+  said_size b share k = share_size b share (waiting_in b.waiting share ++ samples) (lent_to_each b samples model) k
 
-  abbrev takeWork : Record → List Float → Effect Answer
-  takeWork =
-      tableWork PIECE (λ z. omega arith) (λ b share. takeRows b share samples model out answers)
-      (λ b share. takenOn b share samples model) said-size
+  abbrev take_work : Record → List Float → Effect Answer
+  take_work =
+      table_work PIECE (λ z. omega arith) (λ b share. take_rows b share samples model out answers)
+      (λ b share. taken_on b share samples model) said_size
 
-  take-sized : (b : Record) (share : List Float) → length share ≡ SHARE → length (takeWork b share).kept ≡ SHARE
-  take-sized =
-      table-sized PIECE (λ z. omega arith) (λ b share. takeRows b share samples model out answers)
-      (λ b share. takenOn b share samples model) said-size
+  take_sized : (b : Record) (share : List Float) → length share ≡ SHARE → length (take_work b share).kept ≡ SHARE
+  take_sized =
+      table_sized PIECE (λ z. omega arith) (λ b share. take_rows b share samples model out answers)
+      (λ b share. taken_on b share samples model) said_size
 
   taking : Local
   taking =
-      tabled PIECE (λ z. omega arith) (λ b share. takeRows b share samples model out answers)
-      (λ b share. takenOn b share samples model) said-size
+      tabled PIECE (λ z. omega arith) (λ b share. take_rows b share samples model out answers)
+      (λ b share. taken_on b share samples model) said_size
 
   module _ (n side : ℕ) (b : Record) (store : List Float) where
-    take-does : whole.take n side b store samples model out answers ≡ performed n side b store taking
-    unfolding whole.take takeReply taking tabled
-    take-does =
-        table_does PIECE (λ z. omega arith) (λ b share. takeRows b share samples model out answers)
-        (λ b share. takenOn b share samples model) said-size n side b store
+    take_does : whole.take n side b store samples model out answers ≡ performed n side b store taking
+    unfolding whole.take take_reply taking tabled
+    take_does =
+        table_does PIECE (λ z. omega arith) (λ b share. take_rows b share samples model out answers)
+        (λ b share. taken_on b share samples model) said_size n side b store
 
     -- let through
-    take-inside : gate n side b (length store) PIECE ≡ 0
+    take_inside : gate n side b (length store) PIECE ≡ 0
         → whole.take n side b store samples model out answers
-        ≡ placed side store (takeWork b (get (share_of side) store))
+        ≡ placed side store (take_work b (get (share_of side) store))
     unfolding taking tabled
-    take-inside z =
-        take-does
-        ∙ table-inside PIECE (λ z. omega arith) (λ b share. takeRows b share samples model out answers)
-        (λ b share. takenOn b share samples model) said-size n side b store z
+    take_inside z =
+        take_does
+        ∙ table_inside PIECE (λ z. omega arith) (λ b share. take_rows b share samples model out answers)
+        (λ b share. taken_on b share samples model) said_size n side b store z
 
 -- ---- a feed: its take, told otherwise
 
 module _ (block : Block) (model : List ℕ) (cleaned records answers : ℕ) where
   -- the rows behind the gate's
-  abbrev feedBehind : Record → List Row
-  feedBehind b = feedRows 0 b.waiting (blockSize block) cleaned records answers
+  abbrev feed_behind : Record → List Row
+  feed_behind b = feed_rows 0 b.waiting (block_size block) cleaned records answers
 
-  abbrev feedTaken : ℕ → Record → List Float → Effect Answer
-  feedTaken parity b share = fedBy parity b.frame (takeWork (samplesOf block) model ROOM answers b share)
+  abbrev feed_taken : ℕ → Record → List Float → Effect Answer
+  feed_taken parity b share = fed_by parity b.frame (take_work (samples_of block) model ROOM answers b share)
 
-  abbrev feedWork : ℕ → Record → List Float → Effect Answer
-  feedWork parity b share = refusing (feedBehind b) (λ r. unchanged (Refused r) b share) (feedTaken parity b share)
+  abbrev feed_work : ℕ → Record → List Float → Effect Answer
+  feed_work parity b share = refusing (feed_behind b) (λ r. unchanged (Refused r) b share) (feed_taken parity b share)
 
-  feed-sized : (parity : ℕ) (b : Record) (share : List Float) → length share ≡ SHARE
-      → length (feedWork parity b share).kept ≡ SHARE
-  feed-sized parity b share k =
-      by_rows (λ r. unchanged (Refused r) b share) (feedTaken parity b share)
-      (λ (o : Effect Answer). length o.kept ≡ SHARE) (feedBehind b)
-      (λ _. k) (λ _. take-sized (samplesOf block) model ROOM answers b share k)
+  feed_sized : (parity : ℕ) (b : Record) (share : List Float) → length share ≡ SHARE
+      → length (feed_work parity b share).kept ≡ SHARE
+  feed_sized parity b share k =
+      by_rows (λ r. unchanged (Refused r) b share) (feed_taken parity b share)
+      (λ (o : Effect Answer). length o.kept ≡ SHARE) (feed_behind b)
+      (λ _. k) (λ _. take_sized (samples_of block) model ROOM answers b share k)
 
   unfoldable feeding : Local
-  feeding = record { call = PIECE; work = feedWork; sized = feed-sized; blind = λ z. absurd (omega arith) }
+  feeding = record { call = PIECE; work = feed_work; sized = feed_sized; blind = λ z. absurd (omega arith) }
 
-  feed-does : (n side : ℕ) (b : Record) (store : List Float)
+  feed_does : (n side : ℕ) (b : Record) (store : List Float)
       → feeds.feed n side b store block model cleaned records answers ≡ performed n side b store feeding
   unfolding feeds.feed performed feeding
-  feed-does n side b store = go (eqb number 0) refl
+  feed_does n side b store = go (eqb number 0) refl
     where
       number : ℕ
       number = gate n side b (length store) PIECE
@@ -295,21 +295,21 @@ module _ (block : Block) (model : List ℕ) (cleaned records answers : ℕ) wher
       share = get (share_of side) store
 
       right : Effect Answer
-      right = fedBy (side_of side) b.frame (whole.take n side b store (samplesOf block) model ROOM answers)
+      right = fed_by (side_of side) b.frame (whole.take n side b store (samples_of block) model ROOM answers)
 
-      inside : number ≡ 0 → refusing (feedBehind b) (λ r. unchanged (Refused r) b store) right
-          ≡ placed side store (feedWork (side_of side) b share)
+      inside : number ≡ 0 → refusing (feed_behind b) (λ r. unchanged (Refused r) b store) right
+          ≡ placed side store (feed_work (side_of side) b share)
       inside z =
-          sym (along (placed side store) (λ r. unchanged (Refused r) b share) (feedTaken (side_of side) b share)
-          (λ r. unchanged (Refused r) b store) right (feedBehind b)
-          (λ r. rw (put-get (share_of side) store))
-          (λ _. ap (fedBy (side_of side) b.frame)
-          (sym (take-inside (samplesOf block) model ROOM answers n side b store z))))
+          sym (along (placed side store) (λ r. unchanged (Refused r) b share) (feed_taken (side_of side) b share)
+          (λ r. unchanged (Refused r) b store) right (feed_behind b)
+          (λ r. rw (put_get (share_of side) store))
+          (λ _. ap (fed_by (side_of side) b.frame)
+          (sym (take_inside (samples_of block) model ROOM answers n side b store z))))
 
       go : (t : Bool) → eqb number 0 ≡ t
           → cond (not t) (unchanged (Refused number) b store)
-          (refusing (feedBehind b) (λ r. unchanged (Refused r) b store) right)
-          ≡ cond t (placed side store (feedWork (side_of side) b share)) (unchanged (Refused number) b store)
+          (refusing (feed_behind b) (λ r. unchanged (Refused r) b store) right)
+          ≡ cond t (placed side store (feed_work (side_of side) b share)) (unchanged (Refused number) b store)
       go true e = inside (eqb-true number 0 e)
       go false e = refl
 
@@ -322,57 +322,57 @@ locals (take x m o a) = taking x m o a
 locals (feed b m c e a) = feeding b m c e a
 
 does : (n side : ℕ) (ns : List ℕ) (store : List Float) (c : Call)
-    → surface n side ns store c ≡ performed n side (recordIn side ns) store (locals c)
-unfolding hostedFrame hostedTake hostedFeed locals
-does n side ns store (ask a) = ask-does a n side ns store
-does n side ns store (frame x m o) = frame-does x m o n side (recordIn side ns) store
-does n side ns store (take x m o a) = take-does x m o a n side (recordIn side ns) store
-does n side ns store (feed b m c e a) = feed-does b m c e a n side (recordIn side ns) store
+    → surface n side ns store c ≡ performed n side (record_in side ns) store (locals c)
+unfolding hosted_frame hosted_take hosted_feed locals
+does n side ns store (ask a) = ask_does a n side ns store
+does n side ns store (frame x m o) = frame_does x m o n side (record_in side ns) store
+does n side ns store (take x m o a) = take_does x m o a n side (record_in side ns) store
+does n side ns store (feed b m c e a) = feed_does b m c e a n side (record_in side ns) store
 
 pub owned : Owned surface
 owned = record { local = locals; does = does }
 
-pub our-surface : OurSurface
-our-surface = (isolated surface owned BENCHES, undisturbed surface owned BENCHES)
+pub our_surface : OurSurface
+our_surface = (isolated surface owned BENCHES, undisturbed surface owned BENCHES)
 
 -- an opening on either side is that on a desk of one bench
-opening-does : (parity : ℕ) (rec : Record) (xs : List Float) (way : Way) (model : List ℕ) → length xs ≡ SHARE
-    → alone-does surface owned parity rec xs (ask (opening way model))
-    ≡ withBesides (opening way model) (desk 1 0 rec xs (opening way model))
+opening_does : (parity : ℕ) (rec : Record) (xs : List Float) (way : Way) (model : List ℕ) → length xs ≡ SHARE
+    → alone_does surface owned parity rec xs (ask (opening way model))
+    ≡ with_besides (opening way model) (desk 1 0 rec xs (opening way model))
 unfolding owned locals asking lonely
-opening-does parity rec xs way model l =
-    sym (one-bench (asking (opening way model)) rec xs l) ∙ sym (desk-does (opening way model) 1 0 rec xs)
+opening_does parity rec xs way model l =
+    sym (one_bench (asking (opening way model)) rec xs l) ∙ sym (desk_does (opening way model) 1 0 rec xs)
 
 -- what an opening gives that is done hangs neither on the record nor on the store
-opens-alike : (s : ℕ) (more : List Call) (rec : Record) (ns : List ℕ) (xs : List Float) (way : Way) (model : List ℕ)
+opens_alike : (s : ℕ) (more : List Call) (rec : Record) (ns : List ℕ) (xs : List Float) (way : Way) (model : List ℕ)
     → length xs ≡ SHARE
     → passed (desk 1 0 rec xs (opening way model)).answer.reply ≡ true
-    → next surface owned s more ns (alone-does surface owned (side_of s) rec xs (ask (opening way model)))
-    ≡ next surface owned s more (numbersOf s closed)
-    (alone-does surface owned (side_of s) closed (zeros SHARE) (ask (opening way model)))
-opens-alike s more rec ns xs way model l p =
+    → next surface owned s more ns (alone_does surface owned (side_of s) rec xs (ask (opening way model)))
+    ≡ next surface owned s more (numbers_of s closed)
+    (alone_does surface owned (side_of s) closed (zeros SHARE) (ask (opening way model)))
+opens_alike s more rec ns xs way model l p =
     let same = anew rec xs (zeros SHARE) l refl way model p in
-    ap (next surface owned s more ns) (opening-does (side_of s) rec xs way model l)
+    ap (next surface owned s more ns) (opening_does (side_of s) rec xs way model l)
     ∙ alike same
-    ∙ ap (next surface owned s more (numbersOf s closed))
-    (sym (opening-does (side_of s) closed (zeros SHARE) way model refl))
+    ∙ ap (next surface owned s more (numbers_of s closed))
+    (sym (opening_does (side_of s) closed (zeros SHARE) way model refl))
   where
     alike : desk 1 0 rec xs (opening way model) ≡ desk 1 0 closed (zeros SHARE) (opening way model)
-        → next surface owned s more ns (withBesides (opening way model) (desk 1 0 rec xs (opening way model)))
-        ≡ next surface owned s more (numbersOf s closed)
-        (withBesides (opening way model) (desk 1 0 closed (zeros SHARE) (opening way model)))
+        → next surface owned s more ns (with_besides (opening way model) (desk 1 0 rec xs (opening way model)))
+        ≡ next surface owned s more (numbers_of s closed)
+        (with_besides (opening way model) (desk 1 0 closed (zeros SHARE) (opening way model)))
     alike same = rw (same, ← same, p)
 
-pub starts-anew : (n : ℕ) → Anew n
+pub starts_anew : (n : ℕ) → Anew n
 unfolding own lone hosted
-starts-anew n s h st l way model p calls =
+starts_anew n s h st l way model p calls =
     let xs = get (share_of s) st.store in
-    let all = length-get (share_of s) st.store (omega arith) in
-    let mine = recordIn s (st.numbers s) in
+    let all = length_get (share_of s) st.store (omega arith) in
+    let mine = record_in s (st.numbers s) in
     let done : passed (desk 1 0 mine xs (opening way model)).answer.reply ≡ true =
     rw (its_own n s mine st.store (opening way model) l h) at p in
-    in-any-run surface owned n s h (on s (ask (opening way model)) ∷ calls) st l
-    ∙ rw (eq-eqb s s refl) (opens-alike s (own s calls) mine (st.numbers s) xs way model all done)
-    ∙ ap (λ (rec : Record). next surface owned s (own s calls) (numbersOf s closed)
-    (alone-does surface owned (side_of s) rec (zeros SHARE) (ask (opening way model)))) (sym (reads s closed))
-    ∙ sym (alone-lone surface owned s (ask (opening way model) ∷ own s calls))
+    in_any_run surface owned n s h (on s (ask (opening way model)) ∷ calls) st l
+    ∙ rw (eq-eqb s s refl) (opens_alike s (own s calls) mine (st.numbers s) xs way model all done)
+    ∙ ap (λ (rec : Record). next surface owned s (own s calls) (numbers_of s closed)
+    (alone_does surface owned (side_of s) rec (zeros SHARE) (ask (opening way model)))) (sym (reads s closed))
+    ∙ sym (alone_lone surface owned s (ask (opening way model) ∷ own s calls))

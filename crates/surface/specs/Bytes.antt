@@ -8,7 +8,7 @@ use Rattle.rules.specs.Common.{ℕ, ◌*◌, ◌<◌, List, [], ◌∷◌, ◌�
 use Rattle.frame.specs.Share.{SHARE}
 use Rattle.desk.specs.Gate.{BENCHES}
 use Rattle.isolation.specs.Run.{On, received}
-use Rattle.isolation.specs.Isolation.{allZeros, own}
+use Rattle.isolation.specs.Isolation.{all_zeros, own}
 use Rattle.feed.specs.Feed.{Block}
 use Rattle.feed.specs.Laws.{Carries}
 use Rattle.surface.specs.Surface.{Call, feed, surface}
@@ -39,7 +39,7 @@ BytesToBytes n =
     (s : ℕ) → s < n
     → (store store' : List Float) → length store ≡ n * SHARE → length store' ≡ n * SHARE
     → (calls calls' : List (On Call)) → AllAlike (own s calls) (own s calls')
-    → received surface n s (allZeros store) calls ≡ received surface n s (allZeros store') calls'
+    → received surface n s (all_zeros store) calls ≡ received surface n s (all_zeros store') calls'
 
 -- as the box has it
 abbrev pub OurBytes : Type 0

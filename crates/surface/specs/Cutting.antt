@@ -8,17 +8,17 @@
 use Rattle.rules.specs.Common.{ℕ, ◌+◌, ◌*◌, ◌%◌, ◌<◌, Bool, false, cond, List, [], ◌∷◌, ◌++◌, map, ◌≡◌, length, get_or}
 use Rattle.rules.specs.Common.{drop, Float}
 use Rattle.rules.specs.Place.{get}
-use Rattle.frame.specs.Written.{nothing, firstIn, wholesIn}
+use Rattle.frame.specs.Written.{nothing, first_in, wholes_in}
 use Rattle.frame.specs.Share.{SHARE}
-use Rattle.frame.specs.Reply.{isHeard}
+use Rattle.frame.specs.Reply.{is_heard}
 use Rattle.desk.specs.declared.Record.{Record}
 use Rattle.desk.specs.Gate.{side_of, share_of}
-use Rattle.whole.specs.Whole.{lentToEach, answersOf}
-use Rattle.dictation.specs.Dictation.{Told, Dictated, dictatedOn}
-use Rattle.isolation.specs.Run.{Returned, On, State, recordAt, ended, received, done}
+use Rattle.whole.specs.Whole.{lent_to_each, answers_of}
+use Rattle.dictation.specs.Dictation.{Told, Dictated, dictated_on}
+use Rattle.isolation.specs.Run.{Returned, On, State, record_at, ended, received, done}
 use Rattle.pcm.specs.Pcm.{packed}
-use Rattle.sheet.specs.End.{fromFour}
-use Rattle.feed.specs.Feed.{block_of, samplesOf, noted_of}
+use Rattle.sheet.specs.End.{from_four}
+use Rattle.feed.specs.Feed.{block_of, samples_of, noted_of}
 use Rattle.surface.specs.Surface.{Call, feed, surface}
 use Rattle.surface.specs.Bytes.{SameChannel}
 
@@ -33,54 +33,54 @@ pub record Has : Type 0 where
   pub answers : List Float
 
 -- what was written to each of a feed's three buffers, call after call
-abbrev pub cleanedIn : List Returned → List ℕ
-cleanedIn [] = []
-cleanedIn (r ∷ rs) = wholesIn (get_or r.written 1 nothing) ++ cleanedIn rs
+abbrev pub cleaned_in : List Returned → List ℕ
+cleaned_in [] = []
+cleaned_in (r ∷ rs) = wholes_in (get_or r.written 1 nothing) ++ cleaned_in rs
 
 abbrev pub noted_in : List Returned → List ℕ
 noted_in [] = []
-noted_in (r ∷ rs) = wholesIn (get_or r.written 2 nothing) ++ noted_in rs
+noted_in (r ∷ rs) = wholes_in (get_or r.written 2 nothing) ++ noted_in rs
 
-abbrev pub answersIn : List Returned → List Float
-answersIn [] = []
-answersIn (r ∷ rs) = firstIn r.written ++ answersIn rs
+abbrev pub answers_in : List Returned → List Float
+answers_in [] = []
+answers_in (r ∷ rs) = first_in r.written ++ answers_in rs
 
 abbrev pub has_of : ℕ → ℕ → State → List (On Call) → Has
 has_of n s st calls =
     let end = ended surface n st calls in
     let got = received surface n s st calls in
     record {
-      rec = recordAt s end;
+      rec = record_at s end;
       share = get (share_of s) end.store;
-      cleaned = cleanedIn got;
+      cleaned = cleaned_in got;
       records = noted_in got;
-      answers = answersIn got;
+      answers = answers_in got;
     }
 
 -- ---- and what a dictation gives
 
 -- each frame is lent our logarithms of its sums, and the one model
-abbrev pub dictationOf : Record → List Float → List Float → List ℕ → Dictated
-dictationOf rec share samples model = dictatedOn rec share samples (lentToEach rec samples model)
+abbrev pub dictation_of : Record → List Float → List Float → List ℕ → Dictated
+dictation_of rec share samples model = dictated_on rec share samples (lent_to_each rec samples model)
 
-abbrev pub hasSaid : ℕ → Record → List Float → List Float → List ℕ → Has
-hasSaid side rec share samples model =
-    let d = dictationOf rec share samples model in
+abbrev pub has_said : ℕ → Record → List Float → List Float → List ℕ → Has
+has_said side rec share samples model =
+    let d = dictation_of rec share samples model in
     record {
       rec = d.rec;
       share = d.kept;
       cleaned = packed d.out;
-      records = noted_of side rec.frame (answersOf d.told);
-      answers = answersOf d.told;
+      records = noted_of side rec.frame (answers_of d.told);
+      answers = answers_of d.told;
     }
 
 -- ---- the law of cutting, for bytes
 
 -- feeds with one model, of blocks of one shape that have these bytes in a row
 pub data Feeds (format channels channel : ℕ) (model : List ℕ) : List Call → List ℕ → Type 0 where
-  lastBlock : (bytes : List ℕ) (c e a : ℕ)
+  last_block : (bytes : List ℕ) (c e a : ℕ)
       → Feeds format channels channel model (feed (block_of bytes format channels channel) model c e a ∷ []) bytes
-  moreBlocks : (bytes : List ℕ) (c e a : ℕ) {calls : List Call} {rest : List ℕ}
+  more_blocks : (bytes : List ℕ) (c e a : ℕ) {calls : List Call} {rest : List ℕ}
       → Feeds format channels channel model calls rest
       → Feeds format channels channel model (feed (block_of bytes format channels channel) model c e a ∷ calls)
       (bytes ++ rest)
@@ -90,7 +90,7 @@ pub record Streams (n s : ℕ) (st : State) (calls : List (On Call)) (format cha
     (model bytes : List ℕ) : Type 0 where
   pub inside : s < n
   pub sized : length st.store ≡ n * SHARE
-  pub numbered : (recordAt s st).frame < 4294967296
+  pub numbered : (record_at s st).frame < 4294967296
   pub fed : Feeds format channels channel model (done surface n s st calls) bytes
 
 -- then it has what one dictation of all its samples gives, in as many frames as they complete; the records count on
@@ -99,29 +99,29 @@ abbrev pub BytesInARow : Type 0
 BytesInARow =
     (n s : ℕ) (st : State) (calls : List (On Call)) (format channels channel : ℕ) (model bytes : List ℕ)
     → Streams n s st calls format channels channel model bytes
-    → has_of n s st calls ≡ hasSaid (side_of s) (recordAt s st) (get (share_of s) st.store)
-    (samplesOf (block_of bytes format channels channel)) model
+    → has_of n s st calls ≡ has_said (side_of s) (record_at s st) (get (share_of s) st.store)
+    (samples_of (block_of bytes format channels channel)) model
 
 -- what the 8 bytes of a frame's record say: the frame's number, little end first; 1 if it was heard, else 0; the
 -- bench's side; and two zeros
 pub record Tells (bytes : List ℕ) (number : ℕ) (heard : Bool) (side : ℕ) : Type 0 where
-  pub numbered : fromFour bytes ≡ number
+  pub numbered : from_four bytes ≡ number
   pub marked : get_or bytes 4 0 ≡ cond heard 1 0
   pub sided : get_or bytes 5 0 ≡ side
   pub ended : (get_or bytes 6 0 ≡ 0) × (get_or bytes 7 0 ≡ 0)
 
 -- and a dictation of a bench has a record for each frame. Record j has the frame's number, counted on from the bench's
 -- own; it says heard exactly if the frame's reply does; and its side is the bench's own, by the bench's parity
-abbrev pub framesHeardIn : List Told → List Bool
-framesHeardIn told = map (λ (f : Told). isHeard f.1) told
+abbrev pub frames_heard_in : List Told → List Bool
+frames_heard_in told = map (λ (f : Told). is_heard f.1) told
 
 abbrev pub RecordsTell : Type 0
 RecordsTell =
     (bench frame : ℕ) (told : List Told)
-    → let records = noted_of (side_of bench) frame (answersOf told) in
+    → let records = noted_of (side_of bench) frame (answers_of told) in
     (length records ≡ 8 * length told)
     × ((j : ℕ) → j < length told
-    → Tells (drop (8 * j) records) ((frame + j) % 4294967296) (get_or (framesHeardIn told) j false) (side_of bench))
+    → Tells (drop (8 * j) records) ((frame + j) % 4294967296) (get_or (frames_heard_in told) j false) (side_of bench))
 
 -- so two runs in which a bench begins with the same record and share, and is fed streams with the same samples in its
 -- channel, each cut in its own way, give it the same

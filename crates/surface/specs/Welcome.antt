@@ -13,8 +13,8 @@ use Rattle.desk.specs.declared.Record.{Record}
 use Rattle.desk.specs.Desk.{opening}
 use Rattle.desk.specs.Surface.{hosted}
 use Rattle.isolation.specs.Isolation.{own}
-use Rattle.isolation.specs.Run.{On, on, State, recordAt, ended}
-use Rattle.feed.specs.Feed.{Block, blockSize, samplesOf}
+use Rattle.isolation.specs.Run.{On, on, State, record_at, ended}
+use Rattle.feed.specs.Feed.{Block, block_size, samples_of}
 use Rattle.surface.specs.Surface.{Call, ask, frame, take, feed, surface}
 use Rattle.surface.specs.Between.{All}
 use Rattle.surface.specs.Acceptance.{suits}
@@ -29,14 +29,14 @@ pub record Fine (rec : Record) (x : List Float) (m : List ℕ) : Type 0 where
 -- a call that hands it such samples, with room for all that the frames give that they complete. Of a frame they are
 -- 480, and none wait before them
 pub data Fair (rec : Record) : Call → Type 0 where
-  fairFrame : (x : List Float) (m : List ℕ) → Fine rec x m → length x ≡ 480 → rec.waiting ≡ 0
+  fair_frame : (x : List Float) (m : List ℕ) → Fine rec x m → length x ≡ 480 → rec.waiting ≡ 0
       → Fair rec (frame x m 480)
-  fairTake : (x : List Float) (m : List ℕ) (o a : ℕ) → Fine rec x m
+  fair_take : (x : List Float) (m : List ℕ) (o a : ℕ) → Fine rec x m
       → 480 * completes rec.waiting (length x) ≤ o → 3 * completes rec.waiting (length x) ≤ a
       → Fair rec (take x m o a)
-  fairFeed : (b : Block) (m : List ℕ) (c e a : ℕ) → Fine rec (samplesOf b) m
-      → 960 * completes rec.waiting (blockSize b) ≤ c
-      → 8 * completes rec.waiting (blockSize b) ≤ e → 3 * completes rec.waiting (blockSize b) ≤ a
+  fair_feed : (b : Block) (m : List ℕ) (c e a : ℕ) → Fine rec (samples_of b) m
+      → 960 * completes rec.waiting (block_size b) ≤ c
+      → 8 * completes rec.waiting (block_size b) ≤ e → 3 * completes rec.waiting (block_size b) ≤ a
       → Fair rec (feed b m c e a)
 
 -- so it is accepted, behind any run
@@ -46,7 +46,7 @@ NeverTurnedAway =
     → passed (hosted n bench (st.numbers bench) st.store (opening way model)).answer.reply ≡ true
     → (calls : List (On Call))
     → let end = ended surface n st (on bench (ask (opening way model)) ∷ calls) in
-    let rec = recordAt bench end in
+    let rec = record_at bench end in
     rec.due ≡ 1 → (c : Call) → Fair rec c
     → passed (surface n bench (end.numbers bench) end.store c).answer.reply ≡ true
 
@@ -63,5 +63,5 @@ AlwaysReady =
     (n bench : ℕ) (st : State) (way : Way) (model : List ℕ)
     → passed (hosted n bench (st.numbers bench) st.store (opening way model)).answer.reply ≡ true
     → (calls : List (On Call)) → All Entire (own bench calls)
-    → let rec = recordAt bench (ended surface n st (on bench (ask (opening way model)) ∷ calls)) in (rec.due ≡ 1)
+    → let rec = record_at bench (ended surface n st (on bench (ask (opening way model)) ∷ calls)) in (rec.due ≡ 1)
     × (suits rec model ≡ true)

@@ -3,10 +3,10 @@ use Rattle.rules.proofs.Common.{ℕ, ◌+◌, ◌*◌, ◌%◌, ◌≤◌, ◌<�
 use native.Mathlib.Nat.{mul-add, mul-one, mul-zero}
 use native.Mathlib.Omega.{arith}
 use Rattle.rules.specs.F32.{at}
-use Rattle.rules.proofs.Lists.{getD-tab}
+use Rattle.rules.proofs.Lists.{get_d_tab}
 use Rattle.transforms.specs.Cosine.{cosine}
 use Rattle.transforms.specs.Transform.{wave}
-use Rattle.transforms.specs.Private.{fourOf, places, extended}
+use Rattle.transforms.specs.Private.{four_of, places, extended}
 use Rattle.transforms.specs.declared.lanes.Places.{Places}
 
 pub record Small (m : Places) : Type 0 where
@@ -23,18 +23,18 @@ reading : (table : List Float) (k n quarter : ℕ) → table ≡ extended cosine
     → at table ((k * n) % 960 + quarter) ≡ wave k n quarter
 reading table k n quarter e h =
     let place : ((k * n) % 960 + quarter) % 960 ≡ (k * n + quarter) % 960 = omega arith in
-    rw e (getD-tab 1200 (λ i. at cosine (i % 960)) ((k * n) % 960 + quarter) nan (omega arith) ∙ ap (at cosine) place)
+    rw e (get_d_tab 1200 (λ i. at cosine (i % 960)) ((k * n) % 960 + quarter) nan (omega arith) ∙ ap (at cosine) place)
 
-pub read-four : (table : List Float) (m : Places) (k n quarter : ℕ) → table ≡ extended cosine → m ≡ places k n
+pub read_four : (table : List Float) (m : Places) (k n quarter : ℕ) → table ≡ extended cosine → m ≡ places k n
     → quarter ≤ 240
     → record {
       a = at table (m.a + quarter);
       b = at table (m.b + quarter);
       c = at table (m.c + quarter);
       d = at table (m.d + quarter);
-    } ≡ fourOf (λ j. wave j n quarter) k
+    } ≡ four_of (λ j. wave j n quarter) k
 unfolding places
-read-four table m k n quarter by here h =
+read_four table m k n quarter by here h =
     rw (
       here,
       reading table k n quarter by h,
@@ -46,7 +46,7 @@ read-four table m k n quarter by here h =
 stepping : (k n : ℕ) → ((k * n) % 960 + k) % 960 ≡ (k * (n + 1)) % 960
 stepping k n = omega (arith, mul-add k n 1, mul-one k)
 
-pub next-places : (m : Places) (k n : ℕ) → m ≡ places k n
+pub next_places : (m : Places) (k n : ℕ) → m ≡ places k n
     → record {
       a = (m.a + k) % 960;
       b = (m.b + (k + 1)) % 960;
@@ -54,15 +54,15 @@ pub next-places : (m : Places) (k n : ℕ) → m ≡ places k n
       d = (m.d + (k + 3)) % 960;
     } ≡ places k (n + 1)
 unfolding places
-next-places m k n e = rw (e, stepping k n, stepping (k + 1) n, stepping (k + 2) n, stepping (k + 3) n)
+next_places m k n e = rw (e, stepping k n, stepping (k + 1) n, stepping (k + 2) n, stepping (k + 3) n)
 
-pub places-start : (k : ℕ) → record { a = 0; b = 0; c = 0; d = 0 } ≡ places k 0
+pub places_start : (k : ℕ) → record { a = 0; b = 0; c = 0; d = 0 } ≡ places k 0
 unfolding places
-places-start k = simp mul-zero
+places_start k = simp mul-zero
 
-pub places-one : (n : ℕ) → n < 124 → record { a = n; b = n + 1; c = n + 2; d = n + 3 } ≡ places n 1
+pub places_one : (n : ℕ) → n < 124 → record { a = n; b = n + 1; c = n + 2; d = n + 3 } ≡ places n 1
 unfolding places
-places-one n h =
+places_one n h =
     let a : (n * 1) % 960 ≡ n = omega arith in
     let b : ((n + 1) * 1) % 960 ≡ n + 1 = omega arith in
     let c : ((n + 2) * 1) % 960 ≡ n + 2 = omega arith in

@@ -10,20 +10,20 @@ use lib.Ieee.{fits}
 use Rattle.rules.specs.F32.{◌⊕◌, ◌⊖◌, ◌⊗◌, at, f32, two}
 use Rattle.rules.specs.Loop.{loop, range}
 use Rattle.rules.proofs.Tests.{at_each}
-use Rattle.rules.proofs.Loops.{more, range-more}
+use Rattle.rules.proofs.Loops.{more, range_more}
 use Rattle.transforms.specs.Cosine.{cosine}
-use Rattle.transforms.specs.Transform.{wave, forwardStep, inverseStep}
-use Rattle.transforms.specs.Private.{fourOf, both, plusTerm, Lane, ahead, back, index, quarters, sumsOf}
-use Rattle.transforms.specs.Private.{plusTerms, Reached, places, binLane, binPart, sampleLane, samplePart}
-use Rattle.transforms.specs.Private.{wholePart}
+use Rattle.transforms.specs.Transform.{wave, forward_step, inverse_step}
+use Rattle.transforms.specs.Private.{four_of, both, plus_term, Lane, ahead, back, index, quarters, sums_of}
+use Rattle.transforms.specs.Private.{plus_terms, Reached, places, bin_lane, bin_part, sample_lane, sample_part}
+use Rattle.transforms.specs.Private.{whole_part}
 use Rattle.transforms.specs.declared.lanes.Four.{Four}
 use Rattle.transforms.specs.declared.lanes.Places.{Places}
 use Rattle.transforms.specs.declared.lanes.Sums.{Sums}
 use Rattle.floats.specs.Plain.{plain}
 use Rattle.transforms.proofs.Quarters.{same, mirror, half}
-use Rattle.transforms.proofs.Sound.{Sound, sound-add, sound-forward, sound-inverse}
+use Rattle.transforms.proofs.Sound.{Sound, sound_add, sound_forward, sound_inverse}
 
-pub four_same : (f g : ℕ → Float) (k : ℕ) → ((i : ℕ) → i ≤ k + 3 → f i ≡ g i) → fourOf f k ≡ fourOf g k
+pub four_same : (f g : ℕ → Float) (k : ℕ) → ((i : ℕ) → i ≤ k + 3 → f i ≡ g i) → four_of f k ≡ four_of g k
 four_same f g k h =
     let a = h k (omega arith) in
     let b = h (k + 1) (omega arith) in
@@ -33,25 +33,25 @@ four_same f g k h =
 
 -- ---- a term counts by its quarters' remainder
 module _ (w : ℕ) (s p q : Four) where
-  pub none-on : w % 4 ≡ 0 → both ◌⊕◌ s p ≡ plusTerm w s p q
-  unfolding plusTerm
-  none-on e = rw e
+  pub none_on : w % 4 ≡ 0 → both ◌⊕◌ s p ≡ plus_term w s p q
+  unfolding plus_term
+  none_on e = rw e
 
-  pub one_on : w % 4 ≡ 1 → both ◌⊕◌ s q ≡ plusTerm w s p q
-  unfolding plusTerm
+  pub one_on : w % 4 ≡ 1 → both ◌⊕◌ s q ≡ plus_term w s p q
+  unfolding plus_term
   one_on e = rw e
 
-  pub two-on : w % 4 ≡ 2 → both ◌⊖◌ s p ≡ plusTerm w s p q
-  unfolding plusTerm
-  two-on e = rw e
+  pub two_on : w % 4 ≡ 2 → both ◌⊖◌ s p ≡ plus_term w s p q
+  unfolding plus_term
+  two_on e = rw e
 
-  pub three-on : w % 4 ≡ 3 → both ◌⊖◌ s q ≡ plusTerm w s p q
-  unfolding plusTerm
-  three-on e = rw e
+  pub three_on : w % 4 ≡ 3 → both ◌⊖◌ s q ≡ plus_term w s p q
+  unfolding plus_term
+  three_on e = rw e
 
-  pub by-rest : (u : ℕ) → w % 4 ≡ u % 4 → plusTerm w s p q ≡ plusTerm u s p q
-  unfolding plusTerm
-  by-rest u e = rw e
+  pub by_rest : (u : ℕ) → w % 4 ≡ u % 4 → plus_term w s p q ≡ plus_term u s p q
+  unfolding plus_term
+  by_rest u e = rw e
 
 pub thrice : (w t : ℕ) → w % 4 ≡ t → (3 * w) % 4 ≡ (3 * t) % 4
 thrice w t e = let split : 3 * w ≡ 4 * (3 * (w / 4)) + 3 * t = omega arith in
@@ -60,27 +60,27 @@ thrice w t e = let split : 3 * w ≡ 4 * (3 * (w / 4)) + 3 * t = omega arith in
 -- ---- for four neighbours: the products of v, at term n and a quarter on
 module _ (v : Float) (k n : ℕ) where
   abbrev products : ℕ → Four
-  products r = both ◌⊗◌ (fourOf (λ i. v) 0) (fourOf (λ i. wave i n r) k)
+  products r = both ◌⊗◌ (four_of (λ i. v) 0) (four_of (λ i. wave i n r) k)
 
   -- w quarters on is where g's term is
-  term-right : (w : ℕ) (f g : ℕ → Float) (place : ℕ → ℕ) → ((i : ℕ) → T (plain (f i)))
+  term_right : (w : ℕ) (f g : ℕ → Float) (place : ℕ → ℕ) → ((i : ℕ) → T (plain (f i)))
       → ((i : ℕ) → i ≤ k + 3 → (i * n + 240 * w) % 960 ≡ place i % 960)
       → ((i : ℕ) → i ≤ k + 3 → f i ⊕ v ⊗ at cosine (place i % 960) ≡ g i)
-      → plusTerm w (fourOf f k) (products 0) (products 240) ≡ fourOf g k
-  term-right w f g place plains there terms = go (w % 4) refl
+      → plus_term w (four_of f k) (products 0) (products 240) ≡ four_of g k
+  term_right w f g place plains there terms = go (w % 4) refl
     where
-      go : (t : ℕ) → w % 4 ≡ t → plusTerm w (fourOf f k) (products 0) (products 240) ≡ fourOf g k
+      go : (t : ℕ) → w % 4 ≡ t → plus_term w (four_of f k) (products 0) (products 240) ≡ four_of g k
       go zero e =
-          sym (none-on w _ _ _ e) ∙ four_same _ g k
+          sym (none_on w _ _ _ e) ∙ four_same _ g k
           (λ i b. same (f i) v (i * n + 0) (place i) (omega (arith, there i b)) ∙ terms i b)
       go (suc zero) e =
           sym (one_on w _ _ _ e) ∙ four_same _ g k
           (λ i b. same (f i) v (i * n + 240) (place i) (omega (arith, there i b)) ∙ terms i b)
       go (suc (suc zero)) e =
-          sym (two-on w _ _ _ e) ∙ four_same _ g k
+          sym (two_on w _ _ _ e) ∙ four_same _ g k
           (λ i b. half (f i) v (i * n + 0) (place i) (plains i) (omega (arith, there i b)) ∙ terms i b)
       go (suc (suc (suc zero))) e =
-          sym (three-on w _ _ _ e)
+          sym (three_on w _ _ _ e)
           ∙ four_same _ g k (λ i b. half (f i) v (i * n + 240) (place i) (plains i) (omega (arith, there i b))
           ∙ terms i b)
       go (suc (suc (suc (suc t)))) e = absurd (omega arith)
@@ -97,105 +97,105 @@ module _ (v : Float) (k n j : ℕ) (small : k < 124) (e : n % 4 ≡ j) where
       let split : n ≡ 4 * (n / 4) + j = omega arith in
       (i * (n / 4), omega (arith, rw (← split) at (mul-add i (4 * (n / 4)) j), mul_left_comm i 4 (n / 4)))
 
-  lane-right : (l : Lane) (r : ℕ) (f g : ℕ → Float) → T (grounded l) → ((i : ℕ) → T (plain (f i)))
+  lane_right : (l : Lane) (r : ℕ) (f g : ℕ → Float) → T (grounded l) → ((i : ℕ) → T (plain (f i)))
       → ((i : ℕ) → f i ⊕ v ⊗ wave (index l i) n (240 * r) ≡ g i)
-      → plusTerm (quarters l j r) (fourOf f k) (products v k n 0) (products v k n 240) ≡ fourOf g k
-  lane-right (ahead i) r f g o plains terms =
-      term-right v k n (i * j + r) f g (λ m. (240 * i + m) * n + 240 * r) plains
+      → plus_term (quarters l j r) (four_of f k) (products v k n 0) (products v k n 240) ≡ four_of g k
+  lane_right (ahead i) r f g o plains terms =
+      term_right v k n (i * j + r) f g (λ m. (240 * i + m) * n + 240 * r) plains
       (λ m b. omega (arith, (turns i r).1, add-mul (240 * i) m n, mul_assoc 240 i n)) (λ m b. terms m)
-  lane-right (back i) r f g o plains terms =
+  lane_right (back i) r f g o plains terms =
       let some = ltb→lt 0 i o in
       let there : ℕ → ℕ = λ m. m * n + 240 * (3 * (i * j + r)) in
-      term-right v k n (3 * (i * j + r)) f g there plains (λ m b. refl)
+      term_right v k n (3 * (i * j + r)) f g there plains (λ m b. refl)
       (λ m b. let whole : 240 * i - m + m ≡ 240 * i = omega arith in
       mirror (f m) v (there m) ((240 * i - m) * n + 240 * r)
       (omega (arith, (turns i r).1, rw whole at (add-mul (240 * i - m) m n), mul_assoc 240 i n)) ∙ terms m)
 
 -- ---- for the eight sums: from f to g by one term each
-pub eight-same : {a b c d e f g h a' b' c' d' e' f' g' h' : Four} → a ≡ a' → b ≡ b' → c ≡ c' → d ≡ d' → e ≡ e' → f ≡ f'
+pub eight_same : {a b c d e f g h a' b' c' d' e' f' g' h' : Four} → a ≡ a' → b ≡ b' → c ≡ c' → d ≡ d' → e ≡ e' → f ≡ f'
     → g ≡ g' → h ≡ h'
     → ◌≡◌ {A = Sums} (record { s0 = a; s1 = b; s2 = c; s3 = d; s4 = e; s5 = f; s6 = g; s7 = h })
     (record { s0 = a'; s1 = b'; s2 = c'; s3 = d'; s4 = e'; s5 = f'; s6 = g'; s7 = h' })
-eight-same p q r s t u v w = cc
+eight_same p q r s t u v w = cc
 
 -- by what the calls ensure: c and d are the cosines read
 stepped : (lane : ℕ → Lane) (part : ℕ → ℕ) → ((t : ℕ) → t < 8 → T (grounded (lane t))) → (v : Float) (k n j : ℕ)
     → k < 124 → n % 4 ≡ j
     → (f g : ℕ → ℕ → Float) → ((t i : ℕ) → T (plain (f t i)))
     → ((t i : ℕ) → f t i ⊕ v ⊗ wave (index (lane t) i) n (240 * part t) ≡ g t i)
-    → {s r : Sums} {c d p q : Four} → s ≡ sumsOf f k → c ≡ fourOf (λ i. wave i n 0) k → d ≡ fourOf (λ i. wave i n 240) k
-    → p ≡ both ◌⊗◌ (fourOf (λ i. v) 0) c → q ≡ both ◌⊗◌ (fourOf (λ i. v) 0) d → r ≡ plusTerms lane part j s p q
-    → r ≡ sumsOf g k
-unfolding plusTerms sumsOf
+    → {s r : Sums} {c d p q : Four} → s ≡ sums_of f k → c ≡ four_of (λ i. wave i n 0) k → d ≡ four_of (λ i. wave i n 240) k
+    → p ≡ both ◌⊗◌ (four_of (λ i. v) 0) c → q ≡ both ◌⊗◌ (four_of (λ i. v) 0) d → r ≡ plus_terms lane part j s p q
+    → r ≡ sums_of g k
+unfolding plus_terms sums_of
 stepped lane part grounds v k n j small e f g plains terms now read-c read-d times-c times-d plus =
     plus
     ∙ rw (times-c, times-d, read-c, read-d, now)
-    (eight-same (next 0 (omega arith)) (next 1 (omega arith)) (next 2 (omega arith)) (next 3 (omega arith))
+    (eight_same (next 0 (omega arith)) (next 1 (omega arith)) (next 2 (omega arith)) (next 3 (omega arith))
     (next 4 (omega arith)) (next 5 (omega arith)) (next 6 (omega arith)) (next 7 (omega arith)))
   where
-    next : (t : ℕ) → t < 8 → plusTerm (quarters (lane t) j (part t)) (fourOf (f t) k) (products v k n 0)
-        (products v k n 240) ≡ fourOf (g t) k
-    next t h = lane-right v k n j small e (lane t) (part t) (f t) (g t) (grounds t h) (plains t) (terms t)
+    next : (t : ℕ) → t < 8 → plus_term (quarters (lane t) j (part t)) (four_of (f t) k) (products v k n 0)
+        (products v k n 240) ≡ four_of (g t) k
+    next t h = lane_right v k n j small e (lane t) (part t) (f t) (g t) (grounds t h) (plains t) (terms t)
 
 -- ---- forward
-pub bin-stepped : (x : List Float) (k n j : ℕ) → k < 124 → n % 4 ≡ j → {s r : Sums} {c d p q : Four}
-    → s ≡ sumsOf (binPart x n) k
-    → c ≡ fourOf (λ i. wave i n 0) k → d ≡ fourOf (λ i. wave i n 240) k → p ≡ both ◌⊗◌ (fourOf (λ i. at x n) 0) c
-    → q ≡ both ◌⊗◌ (fourOf (λ i. at x n) 0) d
-    → r ≡ plusTerms binLane (λ i. i % 2) j s p q → r ≡ sumsOf (binPart x (n + 1)) k
-bin-stepped x k n j small e =
-    stepped binLane (λ i. i % 2) (at_each 8 (λ t. grounded (binLane t)) tt) (at x n) k n j small e (binPart x n)
-    (binPart x (n + 1))
-    (λ t i. (sound-forward x (index (binLane t) i) (240 * (t % 2)) n).is_plain)
-    (λ t i. more (forwardStep x (index (binLane t) i) (240 * (t % 2))) (f32 0) n refl refl)
+pub bin_stepped : (x : List Float) (k n j : ℕ) → k < 124 → n % 4 ≡ j → {s r : Sums} {c d p q : Four}
+    → s ≡ sums_of (bin_part x n) k
+    → c ≡ four_of (λ i. wave i n 0) k → d ≡ four_of (λ i. wave i n 240) k → p ≡ both ◌⊗◌ (four_of (λ i. at x n) 0) c
+    → q ≡ both ◌⊗◌ (four_of (λ i. at x n) 0) d
+    → r ≡ plus_terms bin_lane (λ i. i % 2) j s p q → r ≡ sums_of (bin_part x (n + 1)) k
+bin_stepped x k n j small e =
+    stepped bin_lane (λ i. i % 2) (at_each 8 (λ t. grounded (bin_lane t)) tt) (at x n) k n j small e (bin_part x n)
+    (bin_part x (n + 1))
+    (λ t i. (sound_forward x (index (bin_lane t) i) (240 * (t % 2)) n).is_plain)
+    (λ t i. more (forward_step x (index (bin_lane t) i) (240 * (t % 2))) (f32 0) n refl refl)
 
 -- ---- inverse
 module _ (x : List Float) (held : T (fits binary32 (at x 0))) (n : ℕ) (small : n < 124) where
   -- the sums before bin k, with its real part, too
-  abbrev halfPart : ℕ → ℕ → ℕ → Float
-  halfPart k s i = samplePart x k s i ⊕ two ⊗ at x (2 * k - 1) ⊗ wave (index (sampleLane s) i) k 0
+  abbrev half_part : ℕ → ℕ → ℕ → Float
+  half_part k s i = sample_part x k s i ⊕ two ⊗ at x (2 * k - 1) ⊗ wave (index (sample_lane s) i) k 0
 
-  sound : (k l i : ℕ) → Sound (samplePart x k l i)
-  sound k l i = sound-inverse x (index (sampleLane l) i) k held
+  sound : (k l i : ℕ) → Sound (sample_part x k l i)
+  sound k l i = sound_inverse x (index (sample_lane l) i) k held
 
-  grounds : (t : ℕ) → t < 8 → T (grounded (sampleLane t))
-  grounds = at_each 8 (λ t. grounded (sampleLane t)) tt
+  grounds : (t : ℕ) → t < 8 → T (grounded (sample_lane t))
+  grounds = at_each 8 (λ t. grounded (sample_lane t)) tt
 
-  pub sample-stepped : (k j : ℕ) {s h r : Sums} {c d p q t u : Four} → k % 4 ≡ j → s ≡ sumsOf (samplePart x k) n
-      → c ≡ fourOf (λ i. wave i k 0) n → d ≡ fourOf (λ i. wave i k 240) n → 0 < k
-      → p ≡ both ◌⊗◌ (fourOf (λ i. two ⊗ at x (2 * k - 1)) 0) c
-      → q ≡ both ◌⊗◌ (fourOf (λ i. two ⊗ at x (2 * k - 1)) 0) d → h ≡ plusTerms sampleLane (λ i. 0) j s p q
-      → t ≡ both ◌⊗◌ (fourOf (λ i. two ⊗ at x (2 * k)) 0) c → u ≡ both ◌⊗◌ (fourOf (λ i. two ⊗ at x (2 * k)) 0) d
-      → r ≡ plusTerms sampleLane (λ i. 1) j h t u
-      → r ≡ sumsOf (samplePart x (k + 1)) n
-  sample-stepped k j {h = h} e now read-c read-d o times-c times-d first more-c more-d second =
-      let half : h ≡ sumsOf (halfPart k) n =
-      stepped sampleLane (λ i. 0) grounds (two ⊗ at x (2 * k - 1)) n k j small e (samplePart x k) (halfPart k)
+  pub sample_stepped : (k j : ℕ) {s h r : Sums} {c d p q t u : Four} → k % 4 ≡ j → s ≡ sums_of (sample_part x k) n
+      → c ≡ four_of (λ i. wave i k 0) n → d ≡ four_of (λ i. wave i k 240) n → 0 < k
+      → p ≡ both ◌⊗◌ (four_of (λ i. two ⊗ at x (2 * k - 1)) 0) c
+      → q ≡ both ◌⊗◌ (four_of (λ i. two ⊗ at x (2 * k - 1)) 0) d → h ≡ plus_terms sample_lane (λ i. 0) j s p q
+      → t ≡ both ◌⊗◌ (four_of (λ i. two ⊗ at x (2 * k)) 0) c → u ≡ both ◌⊗◌ (four_of (λ i. two ⊗ at x (2 * k)) 0) d
+      → r ≡ plus_terms sample_lane (λ i. 1) j h t u
+      → r ≡ sums_of (sample_part x (k + 1)) n
+  sample_stepped k j {h = h} e now read-c read-d o times-c times-d first more-c more-d second =
+      let half : h ≡ sums_of (half_part k) n =
+      stepped sample_lane (λ i. 0) grounds (two ⊗ at x (2 * k - 1)) n k j small e (sample_part x k) (half_part k)
       (λ l i. (sound k l i).is_plain) (λ l i. refl) now read-c read-d times-c times-d first in
-      stepped sampleLane (λ i. 1) grounds (two ⊗ at x (2 * k)) n k j small e (halfPart k) (samplePart x (k + 1))
-      (λ l i. (sound-add (samplePart x k l i) (two ⊗ at x (2 * k - 1)) (wave (index (sampleLane l) i) k 0)
+      stepped sample_lane (λ i. 1) grounds (two ⊗ at x (2 * k)) n k j small e (half_part k) (sample_part x (k + 1))
+      (λ l i. (sound_add (sample_part x k l i) (two ⊗ at x (2 * k - 1)) (wave (index (sample_lane l) i) k 0)
       (sound k l i)).is_plain)
-      (λ l i. range-more (inverseStep x (index (sampleLane l) i)) (f32 0 ⊕ at x 0) 1 k o refl refl) half read-c read-d
+      (λ l i. range_more (inverse_step x (index (sample_lane l) i)) (f32 0 ⊕ at x 0) 1 k o refl refl) half read-c read-d
       more-c more-d second
 
-  pub last-stepped : {s r : Sums} {c d p q : Four} → s ≡ sumsOf (samplePart x 480) n → c ≡ fourOf (λ i. wave i 480 0) n
-      → d ≡ fourOf (λ i. wave i 480 240) n
-      → p ≡ both ◌⊗◌ (fourOf (λ i. at x 959) 0) c → q ≡ both ◌⊗◌ (fourOf (λ i. at x 959) 0) d
-      → r ≡ plusTerms sampleLane (λ i. 0) 0 s p q → r ≡ sumsOf (wholePart x) n
-  last-stepped =
-      stepped sampleLane (λ i. 0) grounds (at x 959) n 480 0 small refl (samplePart x 480) (wholePart x)
+  pub last_stepped : {s r : Sums} {c d p q : Four} → s ≡ sums_of (sample_part x 480) n → c ≡ four_of (λ i. wave i 480 0) n
+      → d ≡ four_of (λ i. wave i 480 240) n
+      → p ≡ both ◌⊗◌ (four_of (λ i. at x 959) 0) c → q ≡ both ◌⊗◌ (four_of (λ i. at x 959) 0) d
+      → r ≡ plus_terms sample_lane (λ i. 0) 0 s p q → r ≡ sums_of (whole_part x) n
+  last_stepped =
+      stepped sample_lane (λ i. 0) grounds (at x 959) n 480 0 small refl (sample_part x 480) (whole_part x)
       (λ l i. (sound 480 l i).is_plain) (λ l i. refl)
 
 -- ---- where a run begins, and further on
-pub forward-start : (x : List Float) (k : ℕ) → sumsOf (λ s i. f32 0) 0 ≡ sumsOf (binPart x 0) k
-unfolding sumsOf loop
-forward-start x k = refl
+pub forward_start : (x : List Float) (k : ℕ) → sums_of (λ s i. f32 0) 0 ≡ sums_of (bin_part x 0) k
+unfolding sums_of loop
+forward_start x k = refl
 
-pub inverse-start : (x : List Float) (n : ℕ) → sumsOf (λ s i. f32 0 ⊕ at x 0) 0 ≡ sumsOf (samplePart x 1) n
-unfolding sumsOf range loop
-inverse-start x n = refl
+pub inverse_start : (x : List Float) (n : ℕ) → sums_of (λ s i. f32 0 ⊕ at x 0) 0 ≡ sums_of (sample_part x 1) n
+unfolding sums_of range loop
+inverse_start x n = refl
 
 pub onward : {f : ℕ → ℕ → ℕ → Float} {table : List Float} {k n i : ℕ} {s t : Sums} {m l : Places}
-    → Reached f table k n s m → t ≡ sumsOf (f i) k
+    → Reached f table k n s m → t ≡ sums_of (f i) k
     → l ≡ places k i → Reached f table k i t l
 onward r sums here = record { by = r.by; small = r.small; sums = sums; here = here }

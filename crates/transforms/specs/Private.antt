@@ -5,15 +5,15 @@ use Rattle.rules.specs.Loop.{loop, range}
 use Rattle.rules.specs.Tab.{tab}
 use Rattle.rules.specs.F32.{◌⊕◌, ◌⊖◌, at, f32}
 use Rattle.transforms.specs.Cosine.{cosine}
-use Rattle.transforms.specs.Transform.{forwardStep, inverseStep, sample}
+use Rattle.transforms.specs.Transform.{forward_step, inverse_step, sample}
 use Rattle.transforms.specs.declared.lanes.Four.{Four}
 use Rattle.transforms.specs.declared.lanes.Places.{Places}
 use Rattle.transforms.specs.declared.lanes.Sums.{Sums}
 
 -- ---- four neighbours
 -- A number for each of four neighbours.
-abbrev pub fourOf : (ℕ → Float) → ℕ → Four
-fourOf f k = record { a = f k; b = f (k + 1); c = f (k + 2); d = f (k + 3) }
+abbrev pub four_of : (ℕ → Float) → ℕ → Four
+four_of f k = record { a = f k; b = f (k + 1); c = f (k + 2); d = f (k + 3) }
 
 -- An operation on each of the four.
 abbrev pub both : (Float → Float → Float) → Four → Four → Four
@@ -29,8 +29,8 @@ extended c = tab 1200 (λ i. at c (i % 960))
 
 -- The next term of the sums s, w quarters further. p are the products at the place itself, and q those a quarter
 -- further.
-unfoldable pub plusTerm : ℕ → Four → Four → Four → Four
-plusTerm w s p q =
+unfoldable pub plus_term : ℕ → Four → Four → Four → Four
+plus_term w s p q =
     cond (eqb (w % 4) 0) (both ◌⊕◌ s p)
     (cond (eqb (w % 4) 1) (both ◌⊕◌ s q) (cond (eqb (w % 4) 2) (both ◌⊖◌ s p) (both ◌⊖◌ s q)))
 
@@ -53,15 +53,15 @@ quarters (back i) j r = 3 * (i * j + r)
 
 -- ---- eight sums of each of the four: sum s of k is f s k
 -- Eight sums of each of the four: sum s of k is f s k.
-unfoldable pub sumsOf : (ℕ → ℕ → Float) → ℕ → Sums
-sumsOf f k =
-    let of : ℕ → Four = λ s. fourOf (f s) k in
+unfoldable pub sums_of : (ℕ → ℕ → Float) → ℕ → Sums
+sums_of f k =
+    let of : ℕ → Four = λ s. four_of (f s) k in
     record { s0 = of 0; s1 = of 1; s2 = of 2; s3 = of 3; s4 = of 4; s5 = of 5; s6 = of 6; s7 = of 7 }
 
 -- The next term of each sum.
-unfoldable pub plusTerms : (ℕ → Lane) → (ℕ → ℕ) → ℕ → Sums → Four → Four → Sums
-plusTerms lane part j s p q =
-    let of : ℕ → Four → Four = λ i a. plusTerm (quarters (lane i) j (part i)) a p q in
+unfoldable pub plus_terms : (ℕ → Lane) → (ℕ → ℕ) → ℕ → Sums → Four → Four → Sums
+plus_terms lane part j s p q =
+    let of : ℕ → Four → Four = λ i a. plus_term (quarters (lane i) j (part i)) a p q in
     record {
       s0 = of 0 s.s0;
       s1 = of 1 s.s1;
@@ -77,7 +77,7 @@ plusTerms lane part j s p q =
 pub record Reached (f : ℕ → ℕ → ℕ → Float) (table : List Float) (k n : ℕ) (s : Sums) (m : Places) : Type 0 where
   pub by : table ≡ extended cosine
   pub small : k < 124
-  pub sums : s ≡ sumsOf (f n) k
+  pub sums : s ≡ sums_of (f n) k
   pub here : m ≡ places k n
 
 -- The sum that is kept at i.
@@ -90,23 +90,23 @@ pub record Keeps (f : ℕ → ℕ → Float) (n : ℕ) (xs : List Float) : Type 
 
 -- ---- forward: the bins k, 480 - k, 240 + k and 240 - k, each with its two parts; sum s after n terms
 -- The lane of sum s.
-abbrev pub binLane : ℕ → Lane
-binLane s = get_or (ahead 0 ∷ back 2 ∷ ahead 1 ∷ back 1 ∷ []) (s / 2) (ahead 0)
+abbrev pub bin_lane : ℕ → Lane
+bin_lane s = get_or (ahead 0 ∷ back 2 ∷ ahead 1 ∷ back 1 ∷ []) (s / 2) (ahead 0)
 
 -- Sum s after n terms.
-abbrev pub binPart : List Float → ℕ → ℕ → ℕ → Float
-binPart x n s k = loop n (forwardStep x (index (binLane s) k) (240 * (s % 2))) (f32 0)
+abbrev pub bin_part : List Float → ℕ → ℕ → ℕ → Float
+bin_part x n s k = loop n (forward_step x (index (bin_lane s) k) (240 * (s % 2))) (f32 0)
 
 -- ---- inverse: the samples n, 960 - n, 480 + n, 480 - n, 240 + n, 240 - n, 720 + n and 720 - n; sum s before bin k,
 --      and with all bins
 -- The lane of sum s.
-abbrev pub sampleLane : ℕ → Lane
-sampleLane s = get_or (ahead 0 ∷ back 4 ∷ ahead 2 ∷ back 2 ∷ ahead 1 ∷ back 1 ∷ ahead 3 ∷ back 3 ∷ []) s (ahead 0)
+abbrev pub sample_lane : ℕ → Lane
+sample_lane s = get_or (ahead 0 ∷ back 4 ∷ ahead 2 ∷ back 2 ∷ ahead 1 ∷ back 1 ∷ ahead 3 ∷ back 3 ∷ []) s (ahead 0)
 
 -- Sum s before bin k.
-abbrev pub samplePart : List Float → ℕ → ℕ → ℕ → Float
-samplePart x k s n = range 1 k (inverseStep x (index (sampleLane s) n)) (f32 0 ⊕ at x 0)
+abbrev pub sample_part : List Float → ℕ → ℕ → ℕ → Float
+sample_part x k s n = range 1 k (inverse_step x (index (sample_lane s) n)) (f32 0 ⊕ at x 0)
 
 -- Sum s with all bins.
-abbrev pub wholePart : List Float → ℕ → ℕ → Float
-wholePart x s n = sample x (index (sampleLane s) n)
+abbrev pub whole_part : List Float → ℕ → ℕ → Float
+whole_part x s n = sample x (index (sample_lane s) n)

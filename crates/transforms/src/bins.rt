@@ -2,15 +2,15 @@
 ghost use Rattle.std.specs.Prelude.{◌≡◌, ◌+◌, ◌*◌, ◌%◌, ◌≤◌, ◌<◌, length, List, Float};
 ghost use Rattle.rules.specs.Spectrum.{bin_of};
 ghost use Rattle.transforms.specs.Cosine.{cosine};
-ghost use Rattle.transforms.specs.Transform.{bin, part_of, forwardOf};
-ghost use Rattle.transforms.specs.Private.{extended, plusTerms, sumsOf, Reached, kept, Keeps, binLane, binPart};
+ghost use Rattle.transforms.specs.Transform.{bin, part_of, forward_of};
+ghost use Rattle.transforms.specs.Private.{extended, plus_terms, sums_of, Reached, kept, Keeps, bin_lane, bin_part};
 
 use crate::lanes::{Four, Places, Run, Sums, ahead, all_of, back, next, put, read, spot, times};
 
 // Adds term n to each sum; n is j more than a multiple of 4.
 fn add_terms(s: Sums, p: Four, q: Four, j: usize) -> Sums
     requires { j < 4 }
-    ensures { result ≡ plusTerms binLane (λ i. i % 2) j s p q }
+    ensures { result ≡ plus_terms bin_lane (λ i. i % 2) j s p q }
 {
     Sums {
         s0: ahead(s.s0, p, q, 0),
@@ -27,8 +27,8 @@ fn add_terms(s: Sums, p: Four, q: Four, j: usize) -> Sums
 // Adds sample n to each sum.
 fn step(s: Sums, x: &[f32], table: &[f32; 1200], m: Places, k: usize, n: usize, j: usize) -> Sums
     requires x_len { (length x.now ≡ 960) × (n < 960) × (n % 4 ≡ j) }
-    requires reached { Reached (binPart x.now) table.now k n s m }
-    ensures { result ≡ sumsOf (binPart x.now (n + 1)) k }
+    requires reached { Reached (bin_part x.now) table.now k n s m }
+    ensures { result ≡ sums_of (bin_part x.now (n + 1)) k }
 {
     let v = x[n];
     let p = times(v, read(table, m, k, n, 0));
@@ -39,8 +39,8 @@ fn step(s: Sums, x: &[f32], table: &[f32; 1200], m: Places, k: usize, n: usize, 
 // Adds four samples to each sum.
 fn four_steps(t: Run, x: &[f32], table: &[f32; 1200], k: usize, n: usize) -> Run
     requires x_len { (length x.now ≡ 960) × (n + 4 ≤ 960) × (n % 4 ≡ 0) }
-    requires reached { Reached (binPart x.now) table.now k n t.s t.m }
-    ensures { Reached (binPart x.now) table.now k (n + 1 + 1 + 1 + 1) result.s result.m }
+    requires reached { Reached (bin_part x.now) table.now k n t.s t.m }
+    ensures { Reached (bin_part x.now) table.now k (n + 1 + 1 + 1 + 1) result.s result.m }
 {
     let b = n + 1;
     let c = b + 1;
@@ -59,7 +59,7 @@ fn four_steps(t: Run, x: &[f32], table: &[f32; 1200], k: usize, n: usize) -> Run
 // The sums of the bins that belong to k, k + 1, k + 2 and k + 3.
 fn four_bins(x: &[f32], table: &[f32; 1200], k: usize) -> Sums
     requires { (length x.now ≡ 960) × (table.now ≡ extended cosine) × (k < 124) }
-    ensures { result ≡ sumsOf (binPart x.now 960) k }
+    ensures { result ≡ sums_of (bin_part x.now 960) k }
 {
     let mut t = Run {
         s: all_of(0.0),
@@ -80,7 +80,7 @@ fn four_bins(x: &[f32], table: &[f32; 1200], k: usize) -> Sums
 pub(crate) fn all_bins(parts: &mut [f32], x: &[f32], table: &[f32; 1200])
     requires parts_len { length parts.old ≡ 992 }
     requires x_len { (length x.now ≡ 960) × (table.now ≡ extended cosine) }
-    ensures { Keeps (binPart x.now 960) 992 parts.new }
+    ensures { Keeps (bin_part x.now 960) 992 parts.new }
 {
     for g in 0..31 {
         let s = four_bins(x, table, 4 * g);
@@ -102,7 +102,7 @@ fn part_of(j: usize) -> usize
 // Where number j of the spectrum is kept.
 fn bin_spot(j: usize) -> usize
     requires { j < 961 }
-    ensures { (result < 992) × ((x : List Float) → kept (binPart x 960) result ≡ bin x (bin_of j) (part_of j)) }
+    ensures { (result < 992) × ((x : List Float) → kept (bin_part x 960) result ≡ bin x (bin_of j) (part_of j)) }
 {
     let b = (j + 1) / 2;
     let r = part_of(j);
@@ -121,8 +121,8 @@ fn bin_spot(j: usize) -> usize
 // Puts all sums into their places in the spectrum.
 pub(crate) fn spread(out: &mut [f32], parts: &[f32; 992])
     requires { length out.old ≡ 961 }
-    ensures { (x : List Float) → Keeps (binPart x 960) 992 parts.now
-        → out.new ≡ forwardOf x }
+    ensures { (x : List Float) → Keeps (bin_part x 960) 992 parts.now
+        → out.new ≡ forward_of x }
 {
     for j in 0..961 {
         out[j] = parts[bin_spot(j)];

@@ -6,7 +6,7 @@ ghost use Rattle.rules.specs.F32.{◌⊕◌, ◌⊖◌, ◌⊗◌};
 ghost use Rattle.rules.specs.Tab.{tab};
 ghost use Rattle.transforms.specs.Cosine.{cosine};
 ghost use Rattle.transforms.specs.Transform.{wave};
-ghost use Rattle.transforms.specs.Private.{fourOf, both, plusTerm, places, extended, sumsOf, kept, Keeps};
+ghost use Rattle.transforms.specs.Private.{four_of, both, plus_term, places, extended, sums_of, kept, Keeps};
 
 // A number for each of four neighbours.
 #[derive(Drop)]
@@ -72,7 +72,7 @@ fn less(x: Four, y: Four) -> Four
 
 // Multiplies four numbers by one.
 pub(crate) fn times(v: f32, y: Four) -> Four
-    ensures { result ≡ both ◌⊗◌ (fourOf (λ i. v) 0) y }
+    ensures { result ≡ both ◌⊗◌ (four_of (λ i. v) 0) y }
 {
     Four {
         a: v * y.a,
@@ -85,7 +85,7 @@ pub(crate) fn times(v: f32, y: Four) -> Four
 // The next term of sums w quarters on, of the indices ahead: by the products p, and q a quarter on. The callers' w is
 // known when it is compiled.
 pub(crate) fn ahead(s: Four, p: Four, q: Four, w: usize) -> Four
-    ensures { result ≡ plusTerm w s p q }
+    ensures { result ≡ plus_term w s p q }
 {
     let t = w % 4;
     if t == 0 {
@@ -102,7 +102,7 @@ pub(crate) fn ahead(s: Four, p: Four, q: Four, w: usize) -> Four
 
 // The same of the indices back from there.
 pub(crate) fn back(s: Four, p: Four, q: Four, w: usize) -> Four
-    ensures { result ≡ plusTerm (3 * w) s p q }
+    ensures { result ≡ plus_term (3 * w) s p q }
 {
     let t = w % 4;
     if t == 0 {
@@ -119,7 +119,7 @@ pub(crate) fn back(s: Four, p: Four, q: Four, w: usize) -> Four
 
 // Sums that are all v.
 pub(crate) fn all_of(v: f32) -> Sums
-    ensures { result ≡ sumsOf (λ s k. v) 0 }
+    ensures { result ≡ sums_of (λ s k. v) 0 }
 {
     let f = Four {
         a: v,
@@ -163,7 +163,7 @@ pub(crate) fn next(m: Places, k: usize, n: usize) -> Places
 // The cosines at the places of k * n, or a quarter further.
 pub(crate) fn read(table: &[f32; 1200], m: Places, k: usize, n: usize, quarter: usize) -> Four
     requires { (table.now ≡ extended cosine) × (m ≡ places k n) × (quarter ≤ 240) }
-    ensures { result ≡ fourOf (λ i. wave i n quarter) k }
+    ensures { result ≡ four_of (λ i. wave i n quarter) k }
 {
     let a = m.a + quarter;
     let b = m.b + quarter;
@@ -190,7 +190,7 @@ pub(crate) fn extend(table: &mut [f32], cosine: &[f32; 960])
 // Stores the next four numbers of a list.
 fn put_four(parts: &mut [f32], at: usize, v: Four)
     requires { (length parts.old ≡ 992) × (at + 4 ≤ 992) }
-    ensures { (f : ℕ → Float) → v ≡ fourOf f at
+    ensures { (f : ℕ → Float) → v ≡ four_of f at
         → take at parts.old ≡ tab at f → take (at + 4) parts.new ≡ tab (at + 4) f }
 {
     parts[at] = v.a;
@@ -202,7 +202,7 @@ fn put_four(parts: &mut [f32], at: usize, v: Four)
 // Stores the sums of the next four neighbours.
 pub(crate) fn put(parts: &mut [f32], at: usize, s: Sums)
     requires { (length parts.old ≡ 992) × (at + 32 ≤ 992) }
-    ensures { (f : ℕ → ℕ → Float) (g : ℕ) → at ≡ 32 * g → s ≡ sumsOf f (4 * g)
+    ensures { (f : ℕ → ℕ → Float) (g : ℕ) → at ≡ 32 * g → s ≡ sums_of f (4 * g)
         → Keeps f at parts.old → Keeps f (at + 32) parts.new }
 {
     let b = at + 4;

@@ -1,9 +1,9 @@
 // The sums of the inverse: the samples n, 960 - n, 480 + n, 480 - n, 240 + n, 240 - n, 720 + n and 720 - n.
 ghost use Rattle.std.specs.Prelude.{◌≡◌, ◌+◌, ◌*◌, ◌%◌, ◌≤◌, ◌<◌, length, List, Float};
 ghost use Rattle.transforms.specs.Cosine.{cosine};
-ghost use Rattle.transforms.specs.Transform.{sample, inverseOf};
-ghost use Rattle.transforms.specs.Private.{extended, plusTerms, sumsOf, Reached, kept, Keeps, sampleLane};
-ghost use Rattle.transforms.specs.Private.{samplePart, wholePart};
+ghost use Rattle.transforms.specs.Transform.{sample, inverse_of};
+ghost use Rattle.transforms.specs.Private.{extended, plus_terms, sums_of, Reached, kept, Keeps, sample_lane};
+ghost use Rattle.transforms.specs.Private.{sample_part, whole_part};
 
 use crate::lanes::{Four, Places, Run, Sums, ahead, all_of, back, next, put, read, spot, times};
 
@@ -11,7 +11,7 @@ use crate::lanes::{Four, Places, Run, Sums, ahead, all_of, back, next, put, read
 // 4.
 fn add_terms(s: Sums, p: Four, q: Four, j: usize, r: usize) -> Sums
     requires { (j < 4) × (r < 2) }
-    ensures { result ≡ plusTerms sampleLane (λ i. r) j s p q }
+    ensures { result ≡ plus_terms sample_lane (λ i. r) j s p q }
 {
     Sums {
         s0: ahead(s.s0, p, q, r),
@@ -28,8 +28,8 @@ fn add_terms(s: Sums, p: Four, q: Four, j: usize, r: usize) -> Sums
 // Adds bin k, twice, to each sum.
 fn step(s: Sums, x: &[f32], table: &[f32; 1200], m: Places, n: usize, k: usize, j: usize) -> Sums
     requires x_len { (length x.now ≡ 961) × (0 < k) × (k < 480) × (k % 4 ≡ j) }
-    requires reached { Reached (samplePart x.now) table.now n k s m }
-    ensures { result ≡ sumsOf (samplePart x.now (k + 1)) n }
+    requires reached { Reached (sample_part x.now) table.now n k s m }
+    ensures { result ≡ sums_of (sample_part x.now (k + 1)) n }
 {
     let i = 2 * k;
     let v = 2.0 * x[i - 1];
@@ -43,8 +43,8 @@ fn step(s: Sums, x: &[f32], table: &[f32; 1200], m: Places, n: usize, k: usize, 
 // Adds the real part of bin 480, once, to each sum.
 fn last_step(s: Sums, x: &[f32], table: &[f32; 1200], m: Places, n: usize) -> Sums
     requires x_len { length x.now ≡ 961 }
-    requires reached { Reached (samplePart x.now) table.now n 480 s m }
-    ensures { result ≡ sumsOf (wholePart x.now) n }
+    requires reached { Reached (sample_part x.now) table.now n 480 s m }
+    ensures { result ≡ sums_of (whole_part x.now) n }
 {
     let v = x[959];
     let p = times(v, read(table, m, n, 480, 0));
@@ -55,8 +55,8 @@ fn last_step(s: Sums, x: &[f32], table: &[f32; 1200], m: Places, n: usize) -> Su
 // Adds four bins to each sum.
 fn four_steps(t: Run, x: &[f32], table: &[f32; 1200], n: usize, k: usize) -> Run
     requires x_len { (length x.now ≡ 961) × (k + 4 ≤ 480) × (k % 4 ≡ 1) }
-    requires reached { Reached (samplePart x.now) table.now n k t.s t.m }
-    ensures { Reached (samplePart x.now) table.now n (k + 1 + 1 + 1 + 1) result.s result.m }
+    requires reached { Reached (sample_part x.now) table.now n k t.s t.m }
+    ensures { Reached (sample_part x.now) table.now n (k + 1 + 1 + 1 + 1) result.s result.m }
 {
     let b = k + 1;
     let c = b + 1;
@@ -75,8 +75,8 @@ fn four_steps(t: Run, x: &[f32], table: &[f32; 1200], n: usize, k: usize) -> Run
 // Adds bins 477 to 480.
 fn last_steps(t: Run, x: &[f32], table: &[f32; 1200], n: usize) -> Sums
     requires x_len { length x.now ≡ 961 }
-    requires reached { Reached (samplePart x.now) table.now n 477 t.s t.m }
-    ensures { result ≡ sumsOf (wholePart x.now) n }
+    requires reached { Reached (sample_part x.now) table.now n 477 t.s t.m }
+    ensures { result ≡ sums_of (whole_part x.now) n }
 {
     let sa = step(t.s, x, table, t.m, n, 477, 1);
     let ma = next(t.m, n, 477);
@@ -90,7 +90,7 @@ fn last_steps(t: Run, x: &[f32], table: &[f32; 1200], n: usize) -> Sums
 // The sums of the samples that belong to n, n + 1, n + 2 and n + 3.
 fn four_samples(x: &[f32], table: &[f32; 1200], n: usize) -> Sums
     requires { (length x.now ≡ 961) × (table.now ≡ extended cosine) × (n < 124) }
-    ensures { result ≡ sumsOf (wholePart x.now) n }
+    ensures { result ≡ sums_of (whole_part x.now) n }
 {
     let mut t = Run {
         s: all_of(0.0 + x[0]),
@@ -111,7 +111,7 @@ fn four_samples(x: &[f32], table: &[f32; 1200], n: usize) -> Sums
 pub(crate) fn all_samples(parts: &mut [f32], x: &[f32], table: &[f32; 1200])
     requires parts_len { length parts.old ≡ 992 }
     requires x_len { (length x.now ≡ 961) × (table.now ≡ extended cosine) }
-    ensures { Keeps (wholePart x.now) 992 parts.new }
+    ensures { Keeps (whole_part x.now) 992 parts.new }
 {
     for g in 0..31 {
         let s = four_samples(x, table, 4 * g);
@@ -122,7 +122,7 @@ pub(crate) fn all_samples(parts: &mut [f32], x: &[f32], table: &[f32; 1200])
 // Where sample n is kept.
 fn sample_spot(n: usize) -> usize
     requires { n < 960 }
-    ensures { (result < 992) × ((x : List Float) → kept (wholePart x) result ≡ sample x n) }
+    ensures { (result < 992) × ((x : List Float) → kept (whole_part x) result ≡ sample x n) }
 {
     if n < 121 {
         return spot(0, n);
@@ -151,8 +151,8 @@ fn sample_spot(n: usize) -> usize
 // Puts all sums into their places.
 pub(crate) fn spread(out: &mut [f32], parts: &[f32; 992])
     requires { length out.old ≡ 960 }
-    ensures { (x : List Float) → Keeps (wholePart x) 992 parts.now
-        → out.new ≡ inverseOf x }
+    ensures { (x : List Float) → Keeps (whole_part x) 992 parts.now
+        → out.new ≡ inverse_of x }
 {
     for n in 0..960 {
         out[n] = parts[sample_spot(n)];

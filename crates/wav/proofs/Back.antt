@@ -4,10 +4,10 @@ use Rattle.rules.proofs.Common.{length-drop, length-append}
 use native.Mathlib.Omega.{arith}
 use borrow.Author.Tests.{le-ltb}
 use Rattle.sheet.specs.Sheet.{four}
-use Rattle.sheet.specs.End.{fromFour}
+use Rattle.sheet.specs.End.{from_four}
 use Rattle.sheet.proofs.Digits.{digits}
-use Rattle.wav.specs.Chunks.{fromTwo, unread, frontOf, tagIn, format_of, formatFaults, formatted, chunk_of, step_of}
-use Rattle.wav.specs.Head.{headOf}
+use Rattle.wav.specs.Chunks.{from_two, unread, front_of, tag_in, format_of, format_faults, formatted, chunk_of, step_of}
+use Rattle.wav.specs.Head.{head_of}
 use Rattle.wav.specs.Laws.{follow, HeadBack}
 use Rattle.wav.specs.declared.chunks.Head.{Head}
 use Rattle.wav.specs.declared.chunks.Step.TheVariants.{Audio, On}
@@ -19,14 +19,14 @@ four_bytes n h = omega (arith, digits n)
 
 module _ (rate size behind : ℕ) (rest : List ℕ) (hr : rate < 2 ^ 32) (hs : size < 2 ^ 32) where
   abbrev file : List ℕ
-  file = headOf rate size behind ++ rest
+  file = head_of rate size behind ++ rest
 
-  head-long : length (headOf rate size behind) ≡ 44
-  unfolding headOf four
-  head-long = refl
+  head_long : length (head_of rate size behind) ≡ 44
+  unfolding head_of four
+  head_long = refl
 
   room : (place : ℕ) → place ≤ 36 → 8 ≤ length (drop place file)
-  room place h = simp (length-drop, length-append, head-long) (omega arith)
+  room place h = simp (length-drop, length-append, head_long) (omega arith)
 
   -- behind the first twelve bytes, and behind the format
   abbrev named : Head
@@ -36,28 +36,28 @@ module _ (rate size behind : ℕ) (rest : List ℕ) (hr : rate < 2 ^ 32) (hs : s
   described = record { place = 36; format = 16; channels = 1; rate = rate; size = 0 }
 
   front_read : step_of file unread ≡ On named
-  unfolding step_of frontOf fromFour headOf four
-  front_read = rw (le-ltb (length file) 12 (simp (length-append, head-long) (omega arith)))
+  unfolding step_of front_of from_four head_of four
+  front_read = rw (le-ltb (length file) 12 (simp (length-append, head_long) (omega arith)))
 
   format_read : step_of (drop 12 file) named ≡ On described
-  unfolding step_of chunk_of formatted formatFaults tagIn format_of fromTwo fromFour headOf four
+  unfolding step_of chunk_of formatted format_faults tag_in format_of from_two from_four head_of four
   format_read =
       rw (
         le-ltb (length (drop 12 file)) 8 (room 12 (omega arith)),
-        le-ltb (length (drop 12 file)) 24 (simp (length-drop, length-append, head-long) (omega arith)),
+        le-ltb (length (drop 12 file)) 24 (simp (length-drop, length-append, head_long) (omega arith)),
         four_bytes rate hr,
       )
 
-  audio-read : step_of (drop 36 file) described
+  audio_read : step_of (drop 36 file) described
       ≡ Audio (record { place = 44; format = 16; channels = 1; rate = rate; size = size })
-  unfolding step_of chunk_of fromFour headOf four
-  audio-read = rw (le-ltb (length (drop 36 file)) 8 (room 36 (omega arith)), four_bytes size hs)
+  unfolding step_of chunk_of from_four head_of four
+  audio_read = rw (le-ltb (length (drop 36 file)) 8 (room 36 (omega arith)), four_bytes size hs)
 
-pub head-back : HeadBack
+pub head_back : HeadBack
 unfolding follow
-head-back rate size behind rest hr hs =
+head_back rate size behind rest hr hs =
     rw (
       front_read rate size behind rest hr hs,
       format_read rate size behind rest hr hs,
-      audio-read rate size behind rest hr hs,
+      audio_read rate size behind rest hr hs,
     )

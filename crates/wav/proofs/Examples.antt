@@ -4,10 +4,10 @@ use Rattle.rules.specs.Loop.{loop}
 use Rattle.rules.specs.Tab.{tab}
 use Rattle.checksum.specs.Checksum.{table, crc, crc32}
 use Rattle.sheet.specs.Sheet.{four}
-use Rattle.sheet.specs.End.{fromFour}
-use Rattle.wav.specs.Seal.{said, sealOf, sealFaults, sealRead}
-use Rattle.wav.specs.Chunks.{fromTwo, frontOf, tagIn, format_of, formatFaults, formatted, chunk_of, step_of, unread}
-use Rattle.wav.specs.Head.{headOf}
+use Rattle.sheet.specs.End.{from_four}
+use Rattle.wav.specs.Seal.{said, seal_of, seal_faults, seal_read}
+use Rattle.wav.specs.Chunks.{from_two, front_of, tag_in, format_of, format_faults, formatted, chunk_of, step_of, unread}
+use Rattle.wav.specs.Head.{head_of}
 use Rattle.wav.specs.Laws.{follow}
 use Rattle.sides.specs.declared.Side.TheVariants.{Right}
 use Rattle.wav.specs.declared.seal.Word.TheVariants.{Begins, Ends}
@@ -19,36 +19,36 @@ use Rattle.wav.specs.declared.chunks.Step.TheVariants.{Audio, On, Refused}
 abbrev right : Seal
 right = record { side = Right; long = 960; short = 0xCBF43926 }
 
-contents : sealOf Ends right
+contents : seal_of Ends right
     ≡ 84 ∷ 85 ∷ 80 ∷ 80 ∷ 82 ∷ 71 ∷ 72 ∷ 84 ∷ 192 ∷ 3 ∷ 0 ∷ 0 ∷ 0 ∷ 0 ∷ 0 ∷ 0 ∷ 38 ∷ 57 ∷ 244 ∷ 203 ∷ 163 ∷ 115 ∷ 236
     ∷ 148 ∷ []
-unfolding sealOf said four crc32 crc table tab loop
+unfolding seal_of said four crc32 crc table tab loop
 contents = refl
 
 -- the seal; without its last byte; with another letter, another length and another checksum
-seals : map (sealRead Ends)
-    (sealOf Ends right ∷ take 23 (sealOf Ends right) ∷ set (sealOf Ends right) 0 83 ∷ set (sealOf Ends right) 4 76
-    ∷ set (sealOf Ends right) 8 0 ∷ set (sealOf Ends right) 23 0 ∷ [])
+seals : map (seal_read Ends)
+    (seal_of Ends right ∷ take 23 (seal_of Ends right) ∷ set (seal_of Ends right) 0 83 ∷ set (seal_of Ends right) 4 76
+    ∷ set (seal_of Ends right) 8 0 ∷ set (seal_of Ends right) 23 0 ∷ [])
     ≡ reading.Whole right ∷ reading.Refused 51 ∷ reading.Refused 51 ∷ reading.Refused 52 ∷ reading.Refused 52
     ∷ reading.Refused 52 ∷ []
-unfolding sealRead sealFaults fromFour sealOf said four crc32 crc table tab loop
+unfolding seal_read seal_faults from_four seal_of said four crc32 crc table tab loop
 seals = refl
 
 -- the head of three bytes of audio at 48 kHz, with 56 bytes of chunks behind them
-head : headOf 48000 3 56
+head : head_of 48000 3 56
     ≡ 82 ∷ 73 ∷ 70 ∷ 70 ∷ 96 ∷ 0 ∷ 0 ∷ 0 ∷ 87 ∷ 65 ∷ 86 ∷ 69 ∷ 102 ∷ 109 ∷ 116 ∷ 32 ∷ 16 ∷ 0 ∷ 0 ∷ 0 ∷ 1 ∷ 0 ∷ 1 ∷ 0
     ∷ 128 ∷ 187 ∷ 0 ∷ 0 ∷ 0 ∷ 119 ∷ 1 ∷ 0 ∷ 2 ∷ 0 ∷ 16 ∷ 0 ∷ 100 ∷ 97 ∷ 116 ∷ 97 ∷ 3 ∷ 0 ∷ 0 ∷ 0 ∷ []
-unfolding headOf four
+unfolding head_of four
 head = refl
 
 -- the head; another first letter; the file cut within the format; no format; a format of 14 bytes; of 8 bits; of no
 -- channel, and of 65; of two channels with one's bytes
 heads : map (λ (file : List ℕ). follow 3 file unread)
-    (headOf 48000 3 56 ∷ set (headOf 48000 3 56) 3 88 ∷ take 30 (headOf 48000 3 56)
-    ∷ (take 12 (headOf 48000 3 56) ++ drop 36 (headOf 48000 3 56)) ∷ set (headOf 48000 3 56) 16 14
-    ∷ set (headOf 48000 3 56) 34 8 ∷ set (headOf 48000 3 56) 22 0 ∷ set (headOf 48000 3 56) 22 65
-    ∷ set (headOf 48000 3 56) 22 2 ∷ [])
+    (head_of 48000 3 56 ∷ set (head_of 48000 3 56) 3 88 ∷ take 30 (head_of 48000 3 56)
+    ∷ (take 12 (head_of 48000 3 56) ++ drop 36 (head_of 48000 3 56)) ∷ set (head_of 48000 3 56) 16 14
+    ∷ set (head_of 48000 3 56) 34 8 ∷ set (head_of 48000 3 56) 22 0 ∷ set (head_of 48000 3 56) 22 65
+    ∷ set (head_of 48000 3 56) 22 2 ∷ [])
     ≡ Audio (record { place = 44; format = 16; channels = 1; rate = 48000; size = 3 })
     ∷ Refused 41 ∷ Refused 42 ∷ Refused 43 ∷ Refused 44 ∷ Refused 45 ∷ Refused 46 ∷ Refused 46 ∷ Refused 47 ∷ []
-unfolding follow step_of frontOf chunk_of formatted formatFaults tagIn format_of fromTwo fromFour headOf four
+unfolding follow step_of front_of chunk_of formatted format_faults tag_in format_of from_two from_four head_of four
 heads = refl

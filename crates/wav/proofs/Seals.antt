@@ -9,39 +9,39 @@ use lib.Seq.{take_at, drop_at}
 use Rattle.rules.specs.Leaf.{◌leaving◌}
 use Rattle.rules.proofs.Refusals.{leaves}
 use Rattle.checksum.specs.Checksum.{crc32}
-use Rattle.sides.specs.Sides.{ofNumber, ofLetters}
+use Rattle.sides.specs.Sides.{of_number, of_letters}
 use Rattle.sides.specs.declared.Side.{Side}
 use Rattle.sides.specs.declared.Meant.{Meant}
 use Rattle.sides.specs.declared.Meant.TheVariants.{Means, Nothing}
 use Rattle.sheet.specs.Sheet.{four}
-use Rattle.sheet.specs.End.{fromFour}
-use Rattle.wav.specs.Seal.{word_of, name, sealFaults, said, sealOf, sealWritten, sealRead}
+use Rattle.sheet.specs.End.{from_four}
+use Rattle.wav.specs.Seal.{word_of, name, seal_faults, said, seal_of, seal_written, seal_read}
 use Rattle.wav.specs.declared.seal.Word.{Word}
 use Rattle.wav.specs.declared.seal.Seal.{Seal}
 use Rattle.wav.specs.declared.seal.Reading.TheVariants.{Whole, Refused}
 
 module _ (w : Word) (s : List ℕ) where
-  pub at-51 : length s < 24 → Refused 51 ≡ sealRead w s
-  unfolding sealRead sealFaults
-  at-51 h = rw (lt-ltb (length s) 24 h)
+  pub at_51 : length s < 24 → Refused 51 ≡ seal_read w s
+  unfolding seal_read seal_faults
+  at_51 h = rw (lt-ltb (length s) 24 h)
 
-  module _ (enough : 24 ≤ length s) {r k : ℕ} (rs : r ≡ fromFour s) (ks : k ≡ word_of w) where
-    pub at-51' : (r ≡ k → ⊥) → Refused 51 ≡ sealRead w s
-    unfolding sealRead sealFaults
-    at-51' h = rw (le-ltb (length s) 24 enough, ← rs, ← ks, ne_eqb r k h)
+  module _ (enough : 24 ≤ length s) {r k : ℕ} (rs : r ≡ from_four s) (ks : k ≡ word_of w) where
+    pub at_51' : (r ≡ k → ⊥) → Refused 51 ≡ seal_read w s
+    unfolding seal_read seal_faults
+    at_51' h = rw (le-ltb (length s) 24 enough, ← rs, ← ks, ne_eqb r k h)
 
-    module _ {noted own : ℕ} (named : r ≡ k) (ns : noted ≡ fromFour (drop 20 s)) (os : own ≡ crc32 0 (take 20 s)) where
-      pub at-52 : (noted ≡ own → ⊥) → Refused 52 ≡ sealRead w s
-      unfolding sealRead sealFaults
-      at-52 h = rw (le-ltb (length s) 24 enough, ← rs, ← ks, eq-eqb r k named, ← ns, ← os, ne_eqb noted own h)
+    module _ {noted own : ℕ} (named : r ≡ k) (ns : noted ≡ from_four (drop 20 s)) (os : own ≡ crc32 0 (take 20 s)) where
+      pub at_52 : (noted ≡ own → ⊥) → Refused 52 ≡ seal_read w s
+      unfolding seal_read seal_faults
+      at_52 h = rw (le-ltb (length s) 24 enough, ← rs, ← ks, eq-eqb r k named, ← ns, ← os, ne_eqb noted own h)
 
-      module _ {n : ℕ} {m : Meant} (whole : noted ≡ own) (names : n ≡ name s) (ms : m ≡ ofLetters n) where
-        told : ofLetters (name s) ≡ m
-        told = ap ofLetters (sym names) ∙ sym ms
+      module _ {n : ℕ} {m : Meant} (whole : noted ≡ own) (names : n ≡ name s) (ms : m ≡ of_letters n) where
+        told : of_letters (name s) ≡ m
+        told = ap of_letters (sym names) ∙ sym ms
 
-        pub at-53 : Nothing ≡ m → Refused 53 ≡ sealRead w s
-        unfolding sealRead sealFaults
-        at-53 e =
+        pub at_53 : Nothing ≡ m → Refused 53 ≡ seal_read w s
+        unfolding seal_read seal_faults
+        at_53 e =
             rw (
               le-ltb (length s) 24 enough,
               ← rs,
@@ -54,11 +54,11 @@ module _ (w : Word) (s : List ℕ) where
               ← e,
             )
 
-        pub at-whole : {side : Side} {low high sum : ℕ} → low ≡ fromFour (drop 8 s) → high ≡ fromFour (drop 12 s)
-            → sum ≡ fromFour (drop 16 s) → Means side ≡ m
-            → Whole (record { side = side; long = low + 4294967296 * high; short = sum }) ≡ sealRead w s
-        unfolding sealRead sealFaults
-        at-whole ls hs ss e =
+        pub at_whole : {side : Side} {low high sum : ℕ} → low ≡ from_four (drop 8 s) → high ≡ from_four (drop 12 s)
+            → sum ≡ from_four (drop 16 s) → Means side ≡ m
+            → Whole (record { side = side; long = low + 4294967296 * high; short = sum }) ≡ seal_read w s
+        unfolding seal_read seal_faults
+        at_whole ls hs ss e =
             rw (
               le-ltb (length s) 24 enough,
               ← rs,
@@ -79,42 +79,42 @@ module _ (w : Word) (s : List ℕ) where
 pub also : {x y : ℕ} {xs ys : List ℕ} → x ≡ y → xs ≡ ys → (x ∷ xs) ≡ (y ∷ ys)
 also e es = cc
 
-pub length-said : (w : Word) (x : Seal) → length (said w x) ≡ 20
+pub length_said : (w : Word) (x : Seal) → length (said w x) ≡ 20
 unfolding said four
-length-said w x = refl
+length_said w x = refl
 
 -- what is said, and its checksum after it
 pub laid : (w : Word) (x : Seal) (out : List ℕ) → length out ≡ 24 → {front own : List ℕ} {sum : ℕ} → front ≡ said w x
     → own ≡ four sum → sum ≡ crc32 0 (said w x)
     → take 20 (front ++ drop 20 out)
-    ++ (own ++ drop (length (front ++ drop 20 out) - 20) (drop 20 (front ++ drop 20 out))) ≡ sealOf w x
-unfolding sealOf
+    ++ (own ++ drop (length (front ++ drop 20 out) - 20) (drop 20 (front ++ drop 20 out))) ≡ seal_of w x
+unfolding seal_of
 laid w x out size fs os ss =
-    let long : length (said w x ++ drop 20 out) ≡ 24 = simp (length-append, length-said, length-drop) (omega arith) in
+    let long : length (said w x ++ drop 20 out) ≡ 24 = simp (length-append, length_said, length-drop) (omega arith) in
     let none : drop 4 (drop 20 out) ≡ [] = drop_of_length-le (drop 20 out) {i = 4} (simp length-drop (omega arith)) in
     rw (
       fs,
       os,
       ss,
       long,
-      take_at (said w x) (drop 20 out) 20 (length-said w x),
-      drop_at (said w x) (drop 20 out) 20 (length-said w x),
+      take_at (said w x) (drop 20 out) 20 (length_said w x),
+      drop_at (said w x) (drop 20 out) 20 (length_said w x),
       none,
       append-nil (four (crc32 0 (said w x))),
     )
 
 module _ (w : Word) (side long short : ℕ) (out : List ℕ) where
-  pub write-5 : (length out ≡ 24 → ⊥) → (5 leaving out) ≡ sealWritten w side long short out
-  unfolding sealWritten
-  write-5 h = rw (ne_eqb (length out) 24 h)
+  pub write_5 : (length out ≡ 24 → ⊥) → (5 leaving out) ≡ seal_written w side long short out
+  unfolding seal_written
+  write_5 h = rw (ne_eqb (length out) 24 h)
 
-  module _ (room : length out ≡ 24) {m : Meant} (ms : m ≡ ofNumber side) where
-    pub write-53 : Nothing ≡ m → (53 leaving out) ≡ sealWritten w side long short out
-    unfolding sealWritten
-    write-53 e = rw (eq-eqb (length out) 24 room, ← ms, ← e)
+  module _ (room : length out ≡ 24) {m : Meant} (ms : m ≡ of_number side) where
+    pub write_53 : Nothing ≡ m → (53 leaving out) ≡ seal_written w side long short out
+    unfolding seal_written
+    write_53 e = rw (eq-eqb (length out) 24 room, ← ms, ← e)
 
     pub write_done : {known : Side} {after : List ℕ} → Means known ≡ m
-        → after ≡ sealOf w (record { side = known; long = long; short = short })
-        → (0 leaving after) ≡ sealWritten w side long short out
-    unfolding sealWritten
+        → after ≡ seal_of w (record { side = known; long = long; short = short })
+        → (0 leaving after) ≡ seal_written w side long short out
+    unfolding seal_written
     write_done e a = rw (eq-eqb (length out) 24 room, ← ms, ← e) (leaves a)

@@ -1,13 +1,13 @@
 -- Claims about seals and heads. Proofs: proofs/Sealed, Onward, Enough, Back.
 use Rattle.rules.specs.Common.{ℕ, zero, suc, ◌+◌, ◌^◌, ◌≤◌, ◌<◌, List, [], ◌∷◌, ◌++◌, ◌≡◌, length, take, drop}
 use Rattle.rules.specs.Leaf.{◌leaving◌}
-use Rattle.sides.specs.Sides.{lettersOf}
+use Rattle.sides.specs.Sides.{letters_of}
 use Rattle.sides.specs.declared.Side.{Side}
 use Rattle.sides.specs.declared.Side.TheVariants.{Left, Right}
 use Rattle.sheet.specs.Sheet.{four}
-use Rattle.wav.specs.Seal.{sealOf, sealWritten, sealRead, sealSummary}
+use Rattle.wav.specs.Seal.{seal_of, seal_written, seal_read, seal_summary}
 use Rattle.wav.specs.Chunks.{unread, step_of}
-use Rattle.wav.specs.Head.{headOf}
+use Rattle.wav.specs.Head.{head_of}
 use Rattle.wav.specs.declared.seal.Word.{Word}
 use Rattle.wav.specs.declared.seal.Word.TheVariants.{Begins, Ends}
 use Rattle.wav.specs.declared.seal.Seal.{Seal}
@@ -25,40 +25,40 @@ pub record SealFits (x : Seal) : Type 0 where
 
 -- What is written reads back, whatever follows it.
 abbrev pub SealBack : Type 0
-SealBack = (w : Word) (x : Seal) (rest : List ℕ) → SealFits x → sealRead w (sealOf w x ++ rest) ≡ reading.Whole x
+SealBack = (w : Word) (x : Seal) (rest : List ℕ) → SealFits x → seal_read w (seal_of w x ++ rest) ≡ reading.Whole x
 
 -- So a seal cannot be one of another side or of other numbers.
 abbrev pub OneSeal : Type 0
 OneSeal = (w : Word) (x y : Seal) (rest rest' : List ℕ) → SealFits x → SealFits y
-    → sealOf w x ++ rest ≡ sealOf w y ++ rest' → x ≡ y
+    → seal_of w x ++ rest ≡ seal_of w y ++ rest' → x ≡ y
 
 -- With the letters of the other side in their place it is no seal at all.
-abbrev pub otherSide : Side → Side
-otherSide Left = Right
-otherSide Right = Left
+abbrev pub other_side : Side → Side
+other_side Left = Right
+other_side Right = Left
 
 abbrev pub renamed : Seal → List ℕ → List ℕ
-renamed x s = take 4 s ++ (four (lettersOf (otherSide x.side)) ++ drop 8 s)
+renamed x s = take 4 s ++ (four (letters_of (other_side x.side)) ++ drop 8 s)
 
 abbrev pub OtherName : Type 0
 OtherName = (w : Word) (x : Seal) (rest : List ℕ) → SealFits x
-    → sealRead w (renamed x (sealOf w x ++ rest)) ≡ reading.Refused 52
+    → seal_read w (renamed x (seal_of w x ++ rest)) ≡ reading.Refused 52
 
 -- What a host has written, it reads: the same side and the same two numbers.
 abbrev pub SealCalls : Type 0
 SealCalls =
     (w : Word) (side long short : ℕ) (out after rest numbers : List ℕ) → long < 2 ^ 64 → short < 2 ^ 32
     → length numbers ≡ 3
-    → (0 leaving after) ≡ sealWritten w side long short out
-    → sealSummary w (after ++ rest) numbers ≡ (0 leaving side ∷ long ∷ short ∷ [])
+    → (0 leaving after) ≡ seal_written w side long short out
+    → seal_summary w (after ++ rest) numbers ≡ (0 leaving side ∷ long ∷ short ∷ [])
 
 -- A front seal is no end seal, and an end seal no front seal.
-abbrev pub otherWord : Word → Word
-otherWord Begins = Ends
-otherWord Ends = Begins
+abbrev pub other_word : Word → Word
+other_word Begins = Ends
+other_word Ends = Begins
 
 abbrev pub OtherWord : Type 0
-OtherWord = (w : Word) (x : Seal) (rest : List ℕ) → sealRead (otherWord w) (sealOf w x ++ rest) ≡ reading.Refused 51
+OtherWord = (w : Word) (x : Seal) (rest : List ℕ) → seal_read (other_word w) (seal_of w x ++ rest) ≡ reading.Refused 51
 
 -- ---- heads
 
@@ -71,18 +71,18 @@ abbrev pub Enough : Type 0
 Enough = (s : List ℕ) (h : Head) → step_of (take 34 s) h ≡ step_of s h
 
 -- At most n steps of a reading, each lent the file from the place that the one before asked for.
-abbrev pub andOn : Step → (Head → Step) → Step
-andOn (Audio h) more = Audio h
-andOn (On h) more = more h
-andOn (Refused n) more = Refused n
+abbrev pub and_on : Step → (Head → Step) → Step
+and_on (Audio h) more = Audio h
+and_on (On h) more = more h
+and_on (Refused n) more = Refused n
 
 unfoldable pub follow : ℕ → List ℕ → Head → Step
 follow zero file h = On h
-follow (suc n) file h = andOn (step_of (drop h.place file) h) (follow n file)
+follow (suc n) file h = and_on (step_of (drop h.place file) h) (follow n file)
 
 -- What is written reads back in three steps, whatever follows it.
 abbrev pub HeadBack : Type 0
 HeadBack =
     (rate size behind : ℕ) (rest : List ℕ) → rate < 2 ^ 32 → size < 2 ^ 32
-    → follow 3 (headOf rate size behind ++ rest) unread
+    → follow 3 (head_of rate size behind ++ rest) unread
     ≡ Audio (record { place = 44; format = 16; channels = 1; rate = rate; size = size })

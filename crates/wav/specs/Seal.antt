@@ -4,11 +4,11 @@ use Rattle.rules.specs.Common.{ℕ, ◌+◌, ◌*◌, ◌/◌, Bool, not, ◌||�
 use Rattle.rules.specs.Leaf.{◌leaving◌}
 use Rattle.rules.specs.Refusals.{Row, ◌when◌, refusing}
 use Rattle.checksum.specs.Checksum.{crc32}
-use Rattle.sides.specs.Sides.{number_of, lettersOf, ofNumber, ofLetters}
+use Rattle.sides.specs.Sides.{number_of, letters_of, of_number, of_letters}
 use Rattle.sides.specs.declared.Meant.{Meant}
 use Rattle.sides.specs.declared.Meant.TheVariants.{Means, Nothing}
 use Rattle.sheet.specs.Sheet.{four}
-use Rattle.sheet.specs.End.{fromFour}
+use Rattle.sheet.specs.End.{from_four}
 use Rattle.wav.specs.declared.seal.Word.{Word}
 use Rattle.wav.specs.declared.seal.Word.TheVariants.{Begins, Ends}
 use Rattle.wav.specs.declared.seal.Seal.{Seal}
@@ -28,55 +28,55 @@ word_of Ends = TUPP
 
 -- A seal without its own checksum: its word, the letters of the side, a number of 64 bits, and one of 32
 -- bits.
-abbrev pub twentyOf : ℕ → ℕ → ℕ → ℕ → List ℕ
-twentyOf letters name long short =
+abbrev pub twenty_of : ℕ → ℕ → ℕ → ℕ → List ℕ
+twenty_of letters name long short =
     four letters ++ (four name ++ (four long ++ (four (long / 4294967296) ++ four short)))
 
 unfoldable pub said : Word → Seal → List ℕ
-said w s = twentyOf (word_of w) (lettersOf s.side) s.long s.short
+said w s = twenty_of (word_of w) (letters_of s.side) s.long s.short
 
-unfoldable pub sealOf : Word → Seal → List ℕ
-sealOf w s = said w s ++ four (crc32 0 (said w s))
+unfoldable pub seal_of : Word → Seal → List ℕ
+seal_of w s = said w s ++ four (crc32 0 (said w s))
 
 -- ---- written for a host, of a side by its number: what is returned, and what the buffer then holds
 
-abbrev pub laidFor : Word → Meant → ℕ → ℕ → List ℕ → ℕ × List ℕ
-laidFor w (Means side) long short out = 0 leaving sealOf w (record { side = side; long = long; short = short })
-laidFor w Nothing long short out = 53 leaving out
+abbrev pub laid_for : Word → Meant → ℕ → ℕ → List ℕ → ℕ × List ℕ
+laid_for w (Means side) long short out = 0 leaving seal_of w (record { side = side; long = long; short = short })
+laid_for w Nothing long short out = 53 leaving out
 
-unfoldable pub sealWritten : Word → ℕ → ℕ → ℕ → List ℕ → ℕ × List ℕ
-sealWritten w side long short out =
-    refusing (5 when not (eqb (length out) 24) ∷ []) (λ n. n leaving out) (laidFor w (ofNumber side) long short out)
+unfoldable pub seal_written : Word → ℕ → ℕ → ℕ → List ℕ → ℕ × List ℕ
+seal_written w side long short out =
+    refusing (5 when not (eqb (length out) 24) ∷ []) (λ n. n leaving out) (laid_for w (of_number side) long short out)
 
 -- ---- read, at the front of some bytes
 
 abbrev pub name : List ℕ → ℕ
-name s = fromFour (drop 4 s)
+name s = from_four (drop 4 s)
 
 abbrev pub long : List ℕ → ℕ
-long s = fromFour (drop 8 s) + 4294967296 * fromFour (drop 12 s)
+long s = from_four (drop 8 s) + 4294967296 * from_four (drop 12 s)
 
 abbrev pub short : List ℕ → ℕ
-short s = fromFour (drop 16 s)
+short s = from_four (drop 16 s)
 
 -- The refusals, in order.
-unfoldable pub sealFaults : Word → List ℕ → List Row
-sealFaults w s =
-    51 when (ltb (length s) 24 || not (eqb (fromFour s) (word_of w)))
-    ∷ 52 when not (eqb (fromFour (drop 20 s)) (crc32 0 (take 20 s)))
+unfoldable pub seal_faults : Word → List ℕ → List Row
+seal_faults w s =
+    51 when (ltb (length s) 24 || not (eqb (from_four s) (word_of w)))
+    ∷ 52 when not (eqb (from_four (drop 20 s)) (crc32 0 (take 20 s)))
     ∷ []
 
-abbrev pub sealFor : Meant → ℕ → ℕ → Reading
-sealFor (Means side) long short = Whole (record { side = side; long = long; short = short })
-sealFor Nothing long short = Refused 53
+abbrev pub seal_for : Meant → ℕ → ℕ → Reading
+seal_for (Means side) long short = Whole (record { side = side; long = long; short = short })
+seal_for Nothing long short = Refused 53
 
-unfoldable pub sealRead : Word → List ℕ → Reading
-sealRead w s = refusing (sealFaults w s) Refused (sealFor (ofLetters (name s)) (long s) (short s))
+unfoldable pub seal_read : Word → List ℕ → Reading
+seal_read w s = refusing (seal_faults w s) Refused (seal_for (of_letters (name s)) (long s) (short s))
 
 -- What a host is told: the number of the side, and the two numbers.
-abbrev pub sealTold : Reading → List ℕ → ℕ × List ℕ
-sealTold (Whole s) out = 0 leaving number_of s.side ∷ s.long ∷ s.short ∷ []
-sealTold (Refused n) out = n leaving out
+abbrev pub seal_told : Reading → List ℕ → ℕ × List ℕ
+seal_told (Whole s) out = 0 leaving number_of s.side ∷ s.long ∷ s.short ∷ []
+seal_told (Refused n) out = n leaving out
 
-unfoldable pub sealSummary : Word → List ℕ → List ℕ → ℕ × List ℕ
-sealSummary w s out = refusing (5 when not (eqb (length out) 3) ∷ []) (λ n. n leaving out) (sealTold (sealRead w s) out)
+unfoldable pub seal_summary : Word → List ℕ → List ℕ → ℕ × List ℕ
+seal_summary w s out = refusing (5 when not (eqb (length out) 3) ∷ []) (λ n. n leaving out) (seal_told (seal_read w s) out)

@@ -1,13 +1,13 @@
 // Numbers as bytes, least significant byte first.
 ghost use Rattle.std.specs.Prelude.{◌≡◌, ◌+◌, ◌≤◌, ◌<◌, ◌^◌, min, length, drop};
 ghost use Rattle.sheet.specs.Sheet.{four};
-ghost use Rattle.sheet.specs.End.{fromFour};
-ghost use Rattle.wav.specs.Chunks.{fromTwo};
+ghost use Rattle.sheet.specs.End.{from_four};
+ghost use Rattle.wav.specs.Chunks.{from_two};
 
 // The number that four bytes at a place are.
 pub(crate) fn four_at(bytes: &[u8], at: usize) -> u64
     requires { at + 4 ≤ length bytes.now }
-    ensures { (result ≡ fromFour (drop at bytes.now)) × (result < 2 ^ 32) }
+    ensures { (result ≡ from_four (drop at bytes.now)) × (result < 2 ^ 32) }
 {
     sheet::joined(bytes[at], bytes[at + 1], bytes[at + 2], bytes[at + 3]) as u64
 }
@@ -15,7 +15,7 @@ pub(crate) fn four_at(bytes: &[u8], at: usize) -> u64
 // The number that two bytes at a place are.
 pub(crate) fn two_at(bytes: &[u8], at: usize) -> u64
     requires { at + 2 ≤ length bytes.now }
-    ensures { (result ≡ fromTwo (drop at bytes.now)) × (result < 2 ^ 16) }
+    ensures { (result ≡ from_two (drop at bytes.now)) × (result < 2 ^ 16) }
 {
     bytes[at] as u64 + 256 * (bytes[at + 1] as u64)
 }

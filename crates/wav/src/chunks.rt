@@ -1,8 +1,8 @@
 // The head of a WAV file, read chunk by chunk from the bytes that are lent.
 ghost use Rattle.std.specs.Prelude.{◌≡◌, ◌+◌, ◌≤◌, ◌<◌, ◌^◌, length};
 ghost use Rattle.rules.specs.Leaf.{◌leaving◌};
-ghost use Rattle.wav.specs.Chunks.{tagIn, format_of, frontOf, pastChunk, formatted, chunk_of, step_of, headNumbers};
-ghost use Rattle.wav.specs.Chunks.{stepTold};
+ghost use Rattle.wav.specs.Chunks.{tag_in, format_of, front_of, past_chunk, formatted, chunk_of, step_of, head_numbers};
+ghost use Rattle.wav.specs.Chunks.{step_told};
 
 use crate::bytes;
 
@@ -36,7 +36,7 @@ pub enum Step {
 
 // The first twelve bytes of a file.
 fn front(file: &[u8]) -> Step
-    ensures { result ≡ frontOf file.now }
+    ensures { result ≡ front_of file.now }
 {
     if file.len() < 12 {
         return Step::Refused(41);
@@ -59,7 +59,7 @@ fn front(file: &[u8]) -> Step
 // The tag of a format. An extensible format has its tag at the beginning of its identifier.
 fn tag_in(file: &[u8], size: u64) -> u64
     requires { (24 ≤ length file.now) × (26 ≤ size → 34 ≤ length file.now) }
-    ensures { result ≡ tagIn size file.now }
+    ensures { result ≡ tag_in size file.now }
 {
     let tag = bytes::two_at(file, 8);
     if tag != 65534 {
@@ -99,7 +99,7 @@ fn format_of(tag: u64, bits: u64) -> u64
 // The reading after a chunk of this size, at a place below 2^63.
 fn pass(size: u64, head: Head) -> Head
     requires { (size < 2 ^ 32) × (head.place < 2 ^ 63) }
-    ensures { result ≡ pastChunk size head }
+    ensures { result ≡ past_chunk size head }
 {
     Head {
         place: head.place + 8 + size + size % 2,
@@ -194,7 +194,7 @@ pub fn go_on(file: &[u8], head: Head) -> Step
 
 fn tell(numbers: &mut [u64], head: Head)
     requires { length numbers.old ≡ 5 }
-    ensures { numbers.new ≡ headNumbers head }
+    ensures { numbers.new ≡ head_numbers head }
 {
     numbers[0] = head.place;
     numbers[1] = head.format;
@@ -207,7 +207,7 @@ fn tell(numbers: &mut [u64], head: Head)
 // Returns 0 if the audio was found, and 40 if the bytes from the place on are wanted. A buffer of other than
 // five numbers is refused with 5.
 pub fn read(numbers: &mut [u64], file: &[u8]) -> u32
-    ensures { (result leaving (λ x. x.now) numbers.exit) ≡ stepTold file.now numbers.old }
+    ensures { (result leaving numbers.new) ≡ step_told file.now numbers.old }
 {
     if numbers.len() != 5 {
         return 5;

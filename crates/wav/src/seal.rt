@@ -2,7 +2,7 @@
 // and the checksum of these 20 bytes. The word says which seal it is.
 ghost use Rattle.std.specs.Prelude.{◌≡◌, length};
 ghost use Rattle.rules.specs.Leaf.{◌leaving◌};
-ghost use Rattle.wav.specs.Seal.{word_of, twentyOf, said, sealOf, sealWritten, sealRead, sealSummary};
+ghost use Rattle.wav.specs.Seal.{word_of, twenty_of, said, seal_of, seal_written, seal_read, seal_summary};
 
 use crate::bytes;
 use sides::{Meant, Side};
@@ -45,7 +45,7 @@ fn word_of(word: Word) -> u64
 
 // The 20 bytes of four numbers, the third of 64 bits.
 fn twenty(letters: u64, name: u64, long: u64, short: u64) -> [u8; 20]
-    ensures { result ≡ twentyOf letters name long short }
+    ensures { result ≡ twenty_of letters name long short }
 {
     [
         sheet::low(letters),
@@ -86,7 +86,7 @@ fn said_by(word: Word, seal: Seal) -> [u8; 20]
 
 fn lay(out: &mut [u8], word: Word, seal: Seal)
     requires { length out.old ≡ 24 }
-    ensures { out.new ≡ sealOf word seal }
+    ensures { out.new ≡ seal_of word seal }
 {
     let front = said_by(word, seal);
     let own = bytes::four_of(checksum::crc32(0, &front) as u64);
@@ -96,7 +96,7 @@ fn lay(out: &mut [u8], word: Word, seal: Seal)
 
 // A seal as its 24 bytes.
 pub fn of(word: Word, seal: Seal) -> [u8; 24]
-    ensures { result ≡ sealOf word seal }
+    ensures { result ≡ seal_of word seal }
 {
     let mut bytes = [0u8; 24];
     lay(&mut bytes, word, seal);
@@ -106,7 +106,7 @@ pub fn of(word: Word, seal: Seal) -> [u8; 24]
 // For a host: a seal, of a side by its number. Another length than 24 is refused with 5, and a number that means no
 // side with 53.
 pub fn write(out: &mut [u8], word: Word, side: u32, long: u64, short: u32) -> u32
-    ensures { (result leaving (λ x. x.now) out.exit) ≡ sealWritten word side long short out.old }
+    ensures { (result leaving out.new) ≡ seal_written word side long short out.old }
 {
     if out.len() != 24 {
         return 5;
@@ -130,7 +130,7 @@ pub fn write(out: &mut [u8], word: Word, side: u32, long: u64, short: u32) -> u3
 
 // The seal with this word, at the front of some bytes.
 pub fn read(word: Word, file: &[u8]) -> Reading
-    ensures { result ≡ sealRead word file.now }
+    ensures { result ≡ seal_read word file.now }
 {
     if file.len() < 24 {
         return Reading::Refused(51);
@@ -152,7 +152,7 @@ pub fn read(word: Word, file: &[u8]) -> Reading
 
 // For a host: the side's number, the long number and the short one. Another length than three is refused with 5.
 pub fn summary(numbers: &mut [u64], word: Word, file: &[u8]) -> u32
-    ensures { (result leaving (λ x. x.now) numbers.exit) ≡ sealSummary word file.now numbers.old }
+    ensures { (result leaving numbers.new) ≡ seal_summary word file.now numbers.old }
 {
     if numbers.len() != 3 {
         return 5;

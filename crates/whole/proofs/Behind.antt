@@ -9,7 +9,7 @@ use native.Mathlib.Nat.{add-sub_cancel_left}
 use native.Mathlib.Omega.{arith}
 use borrow.Author.Tests.{not-false}
 use Rattle.rules.specs.Place.{Place, get, put}
-use Rattle.rules.proofs.Places.{length-get}
+use Rattle.rules.proofs.Places.{length_get}
 use Rattle.samples.specs.Samples.{good}
 use Rattle.model.specs.Model.{read_of}
 use Rattle.frame.specs.Effect.{Effect, refusal, Worked}
@@ -24,16 +24,16 @@ use Rattle.desk.specs.Gate.{PIECE, gate, in_range, share_of}
 use Rattle.desk.specs.Laws.{placed}
 use Rattle.desk.proofs.Ranged.{bounded}
 use Rattle.desk.proofs.Turned.{none, through}
-use Rattle.whole.specs.Whole.{unlessRefused}
+use Rattle.whole.specs.Whole.{unless_refused}
 use Rattle.whole.specs.Private.{Fit, Ready}
-use Rattle.whole.proofs.Accepted.{Frame, Take, fits-sizes}
+use Rattle.whole.proofs.Accepted.{Frame, Take, fits_sizes}
 
-pub by-reply : (reply : Reply) (side : ℕ) (rec : Record) (store : List Float) (o : Effect Answer)
+pub by_reply : (reply : Reply) (side : ℕ) (rec : Record) (store : List Float) (o : Effect Answer)
     (P : Effect Answer → Type 0)
     → (passed reply ≡ true → P (placed side store o))
     → (passed reply ≡ false → P (refusal (record { reply = reply; rec = rec }) store))
-    → P (unlessRefused reply side rec store o)
-by-reply reply side rec store o P done bad = go (passed reply) refl
+    → P (unless_refused reply side rec store o)
+by_reply reply side rec store o P done bad = go (passed reply) refl
   where
     go : (t : Bool) → passed reply ≡ t
         → P (cond t (placed side store o) (refusal (record { reply = reply; rec = rec }) store))
@@ -41,8 +41,8 @@ by-reply reply side rec store o P done bad = go (passed reply) refl
     go false e = bad e
 
 -- the gate lets no other record through
-pub let-in-range : (n side : ℕ) (rec : Record) (len call : ℕ) → gate n side rec len call ≡ 0 → in_range rec ≡ true
-let-in-range n side rec len call e = not-false (in_range rec) (none n side rec len call e).1.1.0
+pub let_in_range : (n side : ℕ) (rec : Record) (len call : ℕ) → gate n side rec len call ≡ 0 → in_range rec ≡ true
+let_in_range n side rec len call e = not-false (in_range rec) (none n side rec len call e).1.1.0
 
 abbrev pub lent : ℕ → Place
 lent side = record { at = side * SHARE; size = side * SHARE + SHARE - side * SHARE }
@@ -53,15 +53,15 @@ lent_is side = ap (λ (m : ℕ). record { at = side * SHARE; size = m }) (add-su
 module _ (reply : Reply) (side : ℕ) (rec : Record) (store : List Float) (work : List Float → Effect Answer) {r : Reply}
     (e : r ≡ reply) where
   pub refused : passed r ≡ false → {held : List (List Float)}
-      → Worked (unlessRefused reply side rec store (work (get (share_of side) store)))
+      → Worked (unless_refused reply side rec store (work (get (share_of side) store)))
       (record { reply = r; rec = rec }) store held held
   refused p = rw (← e, p) (record { answers = refl; keeps = refl; writes = refl })
 
-  pub done-there : passed r ≡ true → {a : Answer} {part : List Float} {held held' : List (List Float)}
+  pub done_there : passed r ≡ true → {a : Answer} {part : List Float} {held held' : List (List Float)}
       → Worked (work (get (lent side) store)) a part held held'
-      → Worked (unlessRefused reply side rec store (work (get (share_of side) store))) a
+      → Worked (unless_refused reply side rec store (work (get (share_of side) store))) a
       (put (lent side) store part) held held'
-  done-there p w =
+  done_there p w =
       let v = rw (lent_is side) at w in
       rw (← e, p, lent_is side)
       (record { answers = v.answers; keeps = ap (put (share_of side) store) v.keeps; writes = v.writes })
@@ -73,20 +73,20 @@ module _ (n side : ℕ) (rec : Record) (store samples : List Float) (model : Lis
       let t = through n side rec (length store) call z in
       rw (lent_is side)
       (record {
-        whole = length-get (share_of side) store (omega arith);
-        index = (bounded rec (let-in-range n side rec (length store) call z)).index;
+        whole = length_get (share_of side) store (omega arith);
+        index = (bounded rec (let_in_range n side rec (length store) call z)).index;
         right = right;
       })
 
-  pub frame-ready : {out : ℕ} → Frame n side rec store samples model out
+  pub frame_ready : {out : ℕ} → Frame n side rec store samples model out
       → Fit rec (get (lent side) store) model × ((length samples ≡ 480) × (good samples ≡ true) × (out ≡ 480))
-  frame-ready k = (fit 1 k.gated k.right, (k.size, k.fine, k.room))
+  frame_ready k = (fit 1 k.gated k.right, (k.size, k.fine, k.room))
 
-  pub take-ready : {out answers : ℕ} → Take n side rec store samples model out answers
+  pub take_ready : {out answers : ℕ} → Take n side rec store samples model out answers
       → Fit rec (get (lent side) store) model
       × Ready rec.waiting (get (lent side) store) samples (completes rec.waiting (length samples)) out answers
-  take-ready {out} k =
-      let s = fits-sizes rec.waiting (length samples) out 22 k.fits in (
+  take_ready {out} k =
+      let s = fits_sizes rec.waiting (length samples) out 22 k.fits in (
         fit PIECE k.gated k.right,
         rw (lent_is side)
             (record { few = s.0; short = s.2; enough = omega arith; room = s.3; places = k.told; fine = k.fine }),

@@ -6,11 +6,11 @@ use Rattle.frame.specs.Effect.{Effect}
 use Rattle.frame.specs.Frame.{counted, checked}
 use Rattle.frame.specs.Reply.{passed}
 use Rattle.frame.specs.Share.{SHARE}
-use Rattle.pieces.specs.Pieces.{waitingIn}
+use Rattle.pieces.specs.Pieces.{waiting_in}
 use Rattle.desk.specs.declared.Answer.{Answer}
 use Rattle.desk.specs.declared.Record.{Record}
-use Rattle.dictation.specs.Dictation.{frameOn}
-use Rattle.whole.specs.Whole.{ourLent}
+use Rattle.dictation.specs.Dictation.{frame_on}
+use Rattle.whole.specs.Whole.{our_lent}
 
 -- A record, a share and a model with which no frame is refused.
 pub record Fit (rec : Record) (share : List Float) (model : List ℕ) : Type 0 where
@@ -25,9 +25,9 @@ pub record Ready (waiting : ℕ) (share piece : List Float) (frames out answers 
   pub enough : 480 * frames ≤ waiting + length piece
   pub room : 480 * frames ≤ out
   pub places : 3 * frames ≤ answers
-  pub fine : good (waitingIn waiting share ++ piece) ≡ true
+  pub fine : good (waiting_in waiting share ++ piece) ≡ true
 
 -- Frame j of these samples, counted from 0.
 abbrev pub frame_of : ℕ → ℕ → Record → List Float → List Float → List ℕ → Effect Answer
 frame_of j waiting rec share piece model =
-    frameOn rec share (take 480 (drop (480 * j) (waitingIn waiting share ++ piece))) (ourLent model)
+    frame_on rec share (take 480 (drop (480 * j) (waiting_in waiting share ++ piece))) (our_lent model)

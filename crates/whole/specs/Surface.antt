@@ -2,15 +2,15 @@
 use Rattle.rules.specs.Common.{ℕ, List, Float}
 use Rattle.frame.specs.Effect.{Effect}
 use Rattle.desk.specs.declared.Answer.{Answer}
-use Rattle.desk.specs.Surface.{recordIn, telling}
+use Rattle.desk.specs.Surface.{record_in, telling}
 use Rattle.whole.specs.Whole.{frame, take}
 
 -- A frame, with the record given as numbers. It also writes its answer as three numbers.
-unfoldable pub hostedFrame : ℕ → ℕ → List ℕ → List Float → List Float → List ℕ → ℕ → Effect Answer
-hostedFrame benches side ns store samples model out =
-    telling (frame benches side (recordIn side ns) store samples model out)
+unfoldable pub hosted_frame : ℕ → ℕ → List ℕ → List Float → List Float → List ℕ → ℕ → Effect Answer
+hosted_frame benches side ns store samples model out =
+    telling (frame benches side (record_in side ns) store samples model out)
 
 -- A take, with the record given as numbers.
-unfoldable pub hostedTake : ℕ → ℕ → List ℕ → List Float → List Float → List ℕ → ℕ → ℕ → Effect Answer
-hostedTake benches side ns store samples model out answers =
-    take benches side (recordIn side ns) store samples model out answers
+unfoldable pub hosted_take : ℕ → ℕ → List ℕ → List Float → List Float → List ℕ → ℕ → ℕ → Effect Answer
+hosted_take benches side ns store samples model out answers =
+    take benches side (record_in side ns) store samples model out answers

@@ -2,7 +2,7 @@
 ghost use Rattle.std.specs.Prelude.{◌≡◌, [], ◌∷◌, ◌+◌, ◌*◌, ◌≤◌, length};
 ghost use Rattle.rules.specs.F32.{zeros};
 ghost use Rattle.frame.specs.Written.{from, over};
-ghost use Rattle.desk.specs.Surface.{heardOf};
+ghost use Rattle.desk.specs.Surface.{heard_of};
 
 use frame::Reply;
 
@@ -24,7 +24,7 @@ fn none() -> Three
 }
 
 pub fn three_of(reply: Reply) -> Three
-    ensures { result.heard ∷ result.voice ∷ result.energy ∷ [] ≡ heardOf reply }
+    ensures { result.heard ∷ result.voice ∷ result.energy ∷ [] ≡ heard_of reply }
 {
     match reply {
         Reply::Heard(voice, energy) => Three {
@@ -43,7 +43,7 @@ pub fn three_of(reply: Reply) -> Three
 // The three answers of frame j.
 pub(crate) fn tell(answers: &mut [f32], j: usize, reply: Reply)
     requires { 3 * j + 3 ≤ length answers.old }
-    ensures { answers.new ≡ over (from (3 * j) (heardOf reply)) answers.old }
+    ensures { answers.new ≡ over (from (3 * j) (heard_of reply)) answers.old }
 {
     let Three {
         heard,

@@ -3,9 +3,9 @@ ghost use Rattle.std.specs.Prelude.{◌≡◌, ◌++◌, ◌*◌, ◌≤◌, ◌
 ghost use Rattle.rules.specs.Place.{get};
 ghost use Rattle.samples.specs.Samples.{good};
 ghost use Rattle.frame.specs.Share.{SHARE};
-ghost use Rattle.pieces.specs.Pieces.{waitingIn};
+ghost use Rattle.pieces.specs.Pieces.{waiting_in};
 ghost use Rattle.desk.specs.Gate.{BENCHES, share_of};
-ghost use Rattle.whole.specs.Whole.{frameReply, takeReply};
+ghost use Rattle.whole.specs.Whole.{frame_reply, take_reply};
 
 use desk::{Bench, Record};
 use frame::Reply;
@@ -19,7 +19,7 @@ pub(crate) fn frame_reply(
     model: &[u8],
     out: usize,
 ) -> Reply
-    ensures { result ≡ frameReply BENCHES side.0 rec len samples.now model.now out }
+    ensures { result ≡ frame_reply BENCHES side.0 rec len samples.now model.now out }
 {
     let number = desk::gate(side, rec, len, 1);
     if number != 0 {
@@ -37,7 +37,7 @@ pub(crate) fn frame_reply(
 // Whether the samples that wait on a side and those of a piece are good.
 fn both_good(side: usize, waiting: usize, store: &[f32], samples: &[f32]) -> bool
     requires { (side < BENCHES) × (length store.now ≡ BENCHES * SHARE) × (waiting ≤ 479) }
-    ensures { result ≡ good (waitingIn waiting (get (share_of side) store.now) ++ samples.now) }
+    ensures { result ≡ good (waiting_in waiting (get (share_of side) store.now) ++ samples.now) }
 {
     let start = side * frame::SHARE + frame::PART;
     let end = start + waiting;
@@ -58,7 +58,7 @@ pub(crate) fn take_reply(
     answers: usize,
 ) -> Reply
     ensures { result
-        ≡ takeReply BENCHES side.0 rec store.now piece.now model.now out answers }
+        ≡ take_reply BENCHES side.0 rec store.now piece.now model.now out answers }
 {
     let number = desk::gate(side, rec, store.len(), desk::PIECE);
     if number != 0 {

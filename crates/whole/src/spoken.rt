@@ -2,12 +2,12 @@
 // samples waits. The callers have tested everything that could refuse it.
 ghost use Rattle.std.specs.Prelude.{true, [], ◌∷◌, ◌++◌, ◌≡◌, ◌+◌, ◌*◌, ◌≤◌, length, drop};
 ghost use Rattle.frame.specs.Effect.{Worked};
-ghost use Rattle.frame.specs.Written.{from, over, firstIn};
+ghost use Rattle.frame.specs.Written.{from, over, first_in};
 ghost use Rattle.samples.specs.Samples.{good};
-ghost use Rattle.pieces.specs.Pieces.{waitingIn, paddedTo, waits, completes};
-ghost use Rattle.desk.specs.Surface.{heardOf};
-ghost use Rattle.dictation.specs.Dictation.{frameOn};
-ghost use Rattle.whole.specs.Whole.{ourLent, takenOn};
+ghost use Rattle.pieces.specs.Pieces.{waiting_in, padded_to, waits, completes};
+ghost use Rattle.desk.specs.Surface.{heard_of};
+ghost use Rattle.dictation.specs.Dictation.{frame_on};
+ghost use Rattle.whole.specs.Whole.{our_lent, taken_on};
 ghost use Rattle.whole.specs.Private.{Fit, Ready, frame_of};
 
 use desk::{Answer, Record};
@@ -23,7 +23,7 @@ pub(crate) fn process_frame(
 ) -> Answer
     requires fit { Fit rec share.old model.now }
     requires samples_len { (length samples.now ≡ 480) × (good samples.now ≡ true) × (length out.old ≡ 480) }
-    ensures { Worked (frameOn rec share.old samples.now (ourLent model.now))
+    ensures { Worked (frame_on rec share.old samples.now (our_lent model.now))
         result share.new (out.old ∷ []) (out.new ∷ []) }
 {
     let hearing = rec.hearing;
@@ -42,8 +42,8 @@ fn gather(out: &mut [f32], share: &[f32], waiting: usize, piece: &[f32], j: usiz
     requires { (length share.now ≡ 6144) × (waiting ≤ 479) × (length piece.now ≤ 4096)
         × (480 * j ≤ waiting + length piece.now) }
     ensures { out.new
-        ≡ paddedTo (length out.old)
-        (drop (480 * j) (waitingIn waiting share.now ++ piece.now)) }
+        ≡ padded_to (length out.old)
+        (drop (480 * j) (waiting_in waiting share.now ++ piece.now)) }
 {
     if j == 0 {
         let end = PART + waiting;
@@ -73,13 +73,13 @@ fn step(
         ≡ (frame_of j waiting rec share.old piece.now model.now).kept }
     ensures out_after { out.new
         ≡ over
-        (from (480 * j) (firstIn
+        (from (480 * j) (first_in
         (frame_of j waiting rec share.old piece.now model.now).written))
         out.old }
     ensures answers_after { answers.new
         ≡ over
         (from (3 * j)
-        (heardOf (frame_of j waiting rec share.old piece.now model.now).answer.reply))
+        (heard_of (frame_of j waiting rec share.old piece.now model.now).answer.reply))
         answers.old }
 {
     let mut samples = [0.0f32; 480];
@@ -101,7 +101,7 @@ fn settle(share: &mut [f32], waiting: usize, piece: &[f32], frames: usize)
         × (480 * frames ≤ waiting + length piece.now) }
     ensures { share.new
         ≡ waits share.old
-        (drop (480 * frames) (waitingIn waiting share.old ++ piece.now)) }
+        (drop (480 * frames) (waiting_in waiting share.old ++ piece.now)) }
 {
     let mut rest = [0.0f32; 479];
     gather(&mut rest, share, waiting, piece, frames);
@@ -120,7 +120,7 @@ pub(crate) fn dictate(
     requires fit { Fit rec share.old model.now }
     requires ready { Ready rec.waiting share.old piece.now (completes rec.waiting (length piece.now))
         (length out.old) (length answers.old) }
-    ensures { Worked (takenOn rec share.old piece.now model.now)
+    ensures { Worked (taken_on rec share.old piece.now model.now)
         result share.new (out.old ∷ answers.old ∷ [])
         (out.new ∷ answers.new ∷ []) }
 {

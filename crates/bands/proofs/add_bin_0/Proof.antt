@@ -1,16 +1,16 @@
 -- `bands::add_bin_0` meets its contract. Assumes nothing.
 use borrow.Author.Rules.{rules}
-use Rattle.bands.specs.Bands.{binCorr, corrStep}
-use Rattle.bands.proofs.Shares.{frac-0, edge-0}
+use Rattle.bands.specs.Bands.{bin_corr, corr_step}
+use Rattle.bands.proofs.Shares.{frac_0, edge_0}
 use Rattle.bands.proofs.add_bin_0.Statement.{statement}
 use Rattle.bands.proofs.add_bin_0.Tie as tie
 
 returns : tie.Need-returns
-unfolding corrStep binCorr
-returns c = rw (edge-0, frac-0)
+unfolding corr_step bin_corr
+returns c = rw (edge_0, frac_0)
 
-pub add-bin-0-spec : {M : Type 1} → statement M
-add-bin-0-spec =
+pub add_bin_0_spec : {M : Type 1} → statement M
+add_bin_0_spec =
     tie.close
     (tie.spec
     (λ c. search rules)  -- shared-slice-read-corr

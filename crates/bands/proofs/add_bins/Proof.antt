@@ -4,10 +4,10 @@
 use Rattle.rules.proofs.Common.{◌+◌, ◌-◌, ◌≤◌, ◌<◌, ◌≡◌, ◌∙◌, length-set}
 use native.Mathlib.Omega.{arith}
 use Rattle.rules.specs.Loop.{range}
-use Rattle.rules.proofs.Loops.{turns, range-begin, range-more, range-ended}
+use Rattle.rules.proofs.Loops.{turns, range_begin, range_more, range_ended}
 use Rattle.rules.proofs.Numbers.{casts}
-use Rattle.bands.specs.Bands.{edge, corrStep}
-use Rattle.bands.proofs.Edges.{Band, band-of}
+use Rattle.bands.specs.Bands.{edge, corr_step}
+use Rattle.bands.proofs.Edges.{Band, band_of}
 use Rattle.bands.proofs.Shares.{held, held_none, turn}
 use Rattle.bands.proofs.add_bins.Statement.{statement}
 use Rattle.bands.proofs.add_bins.Tie as tie
@@ -16,16 +16,16 @@ abbrev invariant-loop : tie.invariant-loop
 invariant-loop out table x p i first start size low₀ high₀ j₀ low high j =
     (first ≤ j) × (j ≤ size) × (start ≡ edge i) × (size ≡ edge (i + 1) - edge i) × (start + size ≤ 400) × (size ≤ 88)
     × (0 < start + first)
-    × (held out i low high ≡ range first j (corrStep x p i) out)
+    × (held out i low high ≡ range first j (corr_step x p i) out)
 
 abbrev decreases-loop : tie.decreases-loop
 decreases-loop out table x p i first start size low₀ high₀ j₀ low high j = size - j
 
 band : (s : tie.Start invariant-loop decreases-loop) → Band s.args.table.now s.args.i
-band s = band-of _ _ s.requires.1.0 s.requires.1.1
+band s = band_of _ _ s.requires.1.0 s.requires.1.1
 
-pub add-bins-spec : {M : Type 1} → statement M
-add-bins-spec =
+pub add_bins_spec : {M : Type 1} → statement M
+add_bins_spec =
     tie.close
     (tie.spec
     invariant-loop
@@ -50,7 +50,7 @@ add-bins-spec =
       omega arith,
       omega arith,
       omega arith,
-      held_none _ _ ∙ range-begin _ _ _,
+      held_none _ _ ∙ range_begin _ _ _,
     ))  -- loop-holds
     (λ c. casts _ (omega arith))  -- int-to-float-frac
     (λ c. casts _ (omega arith))  -- int-to-float-frac-2
@@ -69,7 +69,7 @@ add-bins-spec =
       inv.4,
       inv.5,
       inv.6,
-      range-more _ _ a.first l.j (omega arith) inv.7
+      range_more _ _ a.first l.j (omega arith) inv.7
           (turn _ _ a.out.now a.i _ _ _ _ _ _ (omega arith) inv.2 inv.3 c.corr-at.ensures),
     ))  -- loop-again
     (λ c. search turns)  -- mul-out
@@ -78,4 +78,4 @@ add-bins-spec =
     (λ c. search turns)  -- mul-out-2
     (λ c. simp length-set (omega arith))  -- slice-write-out-2
     (λ c. simp length-set)  -- same-length
-    (λ c. range-ended _ _ _ c.before.loop.j _ (omega arith) (omega arith) c.before.loop.invariant.7))  -- returns
+    (λ c. range_ended _ _ _ c.before.loop.j _ (omega arith) (omega arith) c.before.loop.invariant.7))  -- returns

@@ -2,20 +2,20 @@
 use Rattle.rules.proofs.Common.{◌-◌, ◌≤◌, ◌≡◌, ◌∙◌, ap, length}
 use native.Mathlib.Omega.{arith}
 use Rattle.rules.proofs.Loops.{turns}
-use Rattle.bands.specs.Private.{sumsAfter}
+use Rattle.bands.specs.Private.{sums_after}
 use Rattle.bands.proofs.Shares.{zeros_of}
 use Rattle.bands.proofs.Sums.{sums_none}
 use Rattle.bands.proofs.add_rows.Statement.{statement}
 use Rattle.bands.proofs.add_rows.Tie as tie
 
 abbrev invariant-loop : tie.invariant-loop
-invariant-loop sums₀ table x j₀ sums j = (j ≤ 22) × (length sums ≡ 22) × (sums ≡ sumsAfter table x j)
+invariant-loop sums₀ table x j₀ sums j = (j ≤ 22) × (length sums ≡ 22) × (sums ≡ sums_after table x j)
 
 abbrev decreases-loop : tie.decreases-loop
 decreases-loop sums₀ table x j₀ sums j = 22 - j
 
-pub add-rows-spec : {M : Type 1} → statement M
-add-rows-spec =
+pub add_rows_spec : {M : Type 1} → statement M
+add_rows_spec =
     tie.close
     (tie.spec
     invariant-loop
@@ -33,4 +33,4 @@ add-rows-spec =
     let row = c.before.before.add_row in
     (omega arith, row.auto.0 ∙ c.before.before.before.before.before.loop.invariant.1, row.ensures))  -- loop-again
     (λ c. search turns)  -- same-length
-    (λ c. c.before.loop.invariant.2 ∙ ap (sumsAfter _ _) (omega arith)))  -- returns
+    (λ c. c.before.loop.invariant.2 ∙ ap (sums_after _ _) (omega arith)))  -- returns

@@ -4,6 +4,6 @@ use Rattle.bands.specs.Bands.{edges}
 use Rattle.bands.proofs.all_edges.Statement.{statement}
 use Rattle.bands.proofs.all_edges.Tie as tie
 
-pub all-edges-spec : {M : Type 1} → statement M
+pub all_edges_spec : {M : Type 1} → statement M
 unfolding edges
-all-edges-spec = tie.close (tie.spec (λ c. refl))  -- returns
+all_edges_spec = tie.close (tie.spec (λ c. refl))  -- returns

@@ -6,8 +6,8 @@ use Rattle.rules.proofs.Refusals.{leaves}
 use Rattle.bands.proofs.apply_window.Statement.{statement}
 use Rattle.bands.proofs.apply_window.Tie as tie
 
-pub apply-window-spec : {M : Type 1} → statement M
-apply-window-spec =
+pub apply_window_spec : {M : Type 1} → statement M
+apply_window_spec =
     tie.close
     (tie.spec
     (λ c. refused (λ fits. c.if1.true fits.into) refl)  -- returns

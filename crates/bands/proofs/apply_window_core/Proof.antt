@@ -4,8 +4,8 @@ use native.Mathlib.Omega.{arith}
 use Rattle.rules.specs.F32.{◌⊗◌, at}
 use Rattle.rules.specs.Tab.{tab}
 use Rattle.rules.proofs.Loops.{turns}
-use Rattle.rules.proofs.Lists.{tab-none, tab-more, tab-done}
-use Rattle.bands.specs.Windowed.{windowedBy}
+use Rattle.rules.proofs.Lists.{tab_none, tab_more, tab_done}
+use Rattle.bands.specs.Windowed.{windowed_by}
 use Rattle.bands.proofs.apply_window_core.Statement.{statement}
 use Rattle.bands.proofs.apply_window_core.Tie as tie
 
@@ -17,16 +17,16 @@ abbrev decreases-loop : tie.decreases-loop
 decreases-loop output₀ table input i₀ output i = 960 - i
 
 returns : tie.Need-returns invariant-loop decreases-loop
-unfolding windowedBy
-returns c = c.before.loop.invariant.2 ∙ tab-done _ _ c.before.loop.i 960 (omega arith) (omega arith)
+unfolding windowed_by
+returns c = c.before.loop.invariant.2 ∙ tab_done _ _ c.before.loop.i 960 (omega arith) (omega arith)
 
-pub apply-window-core-spec : {M : Type 1} → statement M
-apply-window-core-spec =
+pub apply_window_core_spec : {M : Type 1} → statement M
+apply_window_core_spec =
     tie.close
     (tie.spec
     invariant-loop
     decreases-loop
-    (λ c. (omega arith, search turns, tab-none _ _))  -- loop-holds
+    (λ c. (omega arith, search turns, tab_none _ _))  -- loop-holds
     (λ c. search turns)  -- mul-output
     (λ c. search turns)  -- shared-slice-read-output
     (λ c. search turns)  -- mul-output-2
@@ -37,6 +37,6 @@ apply-window-core-spec =
     (λ c. search turns)  -- loop-less
     (λ c.
     let l = c.before.before.before.loop in
-    (omega arith, simp length-set l.invariant.1, tab-more _ _ _ _ _ l.invariant.2 refl (omega arith)))  -- loop-again
+    (omega arith, simp length-set l.invariant.1, tab_more _ _ _ _ _ l.invariant.2 refl (omega arith)))  -- loop-again
     (λ c. search turns)  -- same-length
     returns)  -- returns

@@ -7,8 +7,8 @@ use Rattle.rules.proofs.Refusals.{leaves}
 use Rattle.bands.proofs.apply_window_in_place.Statement.{statement}
 use Rattle.bands.proofs.apply_window_in_place.Tie as tie
 
-pub apply-window-in-place-spec : {M : Type 1} → statement M
-apply-window-in-place-spec =
+pub apply_window_in_place_spec : {M : Type 1} → statement M
+apply_window_in_place_spec =
     tie.close
     (tie.spec
     (λ c. refused (λ fits. c.if1.true fits) refl)  -- returns

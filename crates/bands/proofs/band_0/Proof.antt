@@ -3,15 +3,15 @@ use Rattle.rules.proofs.Common.{ℕ, ◌≡◌, ◌∙◌}
 use native.Mathlib.Omega.{arith}
 use Rattle.rules.proofs.Loops.{turns}
 use Rattle.bands.specs.Bands.{BandFits}
-use Rattle.bands.proofs.Shares.{zeros_of, first-band}
+use Rattle.bands.proofs.Shares.{zeros_of, first_band}
 use Rattle.bands.proofs.band_0.Statement.{statement}
 use Rattle.bands.proofs.band_0.Tie as tie
 
 cleared : {m n x p : ℕ} → m ≡ n → BandFits n x p → BandFits m x p
 cleared e fits = record { bands = e ∙ fits.bands; left = fits.left; right = fits.right }
 
-pub band-0-spec : {M : Type 1} → statement M
-band-0-spec =
+pub band_0_spec : {M : Type 1} → statement M
+band_0_spec =
     tie.close
     (tie.spec
     (λ c κs. search turns)  -- clear-requires
@@ -33,4 +33,4 @@ band-0-spec =
       c.before.before.add-bins.ensures,
       c.before.before.before.before.before.before.add-bin-0.ensures,
       zero,
-    ) (first-band _ _ _)))  -- returns
+    ) (first_band _ _ _)))  -- returns

@@ -4,26 +4,26 @@ use native.Mathlib.Omega.{arith}
 use Rattle.rules.specs.Loop.{loop}
 use Rattle.rules.proofs.Loops.{turns, more, ended}
 use Rattle.rules.specs.F32.{zeros}
-use Rattle.bands.specs.Bands.{edges, inBand, corrStep, bandCorr}
-use Rattle.bands.proofs.Shares.{any-band}
+use Rattle.bands.specs.Bands.{edges, in_band, corr_step, band_corr}
+use Rattle.bands.proofs.Shares.{any_band}
 use Rattle.bands.proofs.compute_band_corr_core.Statement.{statement}
 use Rattle.bands.proofs.compute_band_corr_core.Tie as tie
 
 abbrev invariant-loop : tie.invariant-loop
 invariant-loop out₀ x p table i₀ out i =
-    (1 ≤ i) × (i ≤ 21) × (length out ≡ 22) × (table ≡ edges) × (out ≡ loop i (inBand (corrStep x p)) (zeros 22))
+    (1 ≤ i) × (i ≤ 21) × (length out ≡ 22) × (table ≡ edges) × (out ≡ loop i (in_band (corr_step x p)) (zeros 22))
 
 abbrev decreases-loop : tie.decreases-loop
 decreases-loop out₀ x p table i₀ out i = 21 - i
 
 returns : tie.Need-returns invariant-loop decreases-loop
-unfolding bandCorr
+unfolding band_corr
 returns c =
     let l = c.before.before.before.loop in
     rw (ended _ _ l.i 21 (omega arith) (omega arith) l.invariant.4)
 
-pub compute-band-corr-core-spec : {M : Type 1} → statement M
-compute-band-corr-core-spec =
+pub compute_band_corr_core_spec : {M : Type 1} → statement M
+compute_band_corr_core_spec =
     tie.close
     (tie.spec
     invariant-loop
@@ -56,7 +56,7 @@ compute-band-corr-core-spec =
       omega arith,
       c.before.before.add-bins.auto.0 ∙ l.invariant.2,
       l.invariant.3,
-      more _ _ _ l.invariant.4 (c.before.before.add-bins.ensures ∙ any-band _ _ _ _),
+      more _ _ _ l.invariant.4 (c.before.before.add-bins.ensures ∙ any_band _ _ _ _),
     ))  -- loop-again
     (λ c. search turns)  -- slice-read-out
     (λ c. search turns)  -- slice-write-out

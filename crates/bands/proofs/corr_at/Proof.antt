@@ -2,16 +2,16 @@
 use native.Mathlib.Omega.{arith}
 use borrow.Author.Rules.{rules}
 use borrow.Author.Tests.{ne_eqb}
-use Rattle.bands.specs.Bands.{binCorr}
+use Rattle.bands.specs.Bands.{bin_corr}
 use Rattle.bands.proofs.corr_at.Statement.{statement}
 use Rattle.bands.proofs.corr_at.Tie as tie
 
 returns : tie.Need-returns
-unfolding binCorr
+unfolding bin_corr
 returns c = rw (ne_eqb c.before.before.before.before.args.k 0 (λ e. omega arith))
 
-pub corr-at-spec : {M : Type 1} → statement M
-corr-at-spec =
+pub corr_at_spec : {M : Type 1} → statement M
+corr_at_spec =
     tie.close
     (tie.spec
     (λ c. search rules)  -- mul-n

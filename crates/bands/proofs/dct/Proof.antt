@@ -6,8 +6,8 @@ use Rattle.rules.proofs.Refusals.{leaves}
 use Rattle.bands.proofs.dct.Statement.{statement}
 use Rattle.bands.proofs.dct.Tie as tie
 
-pub dct-spec : {M : Type 1} → statement M
-dct-spec =
+pub dct_spec : {M : Type 1} → statement M
+dct_spec =
     tie.close
     (tie.spec
     (λ c. refused (λ fits. c.if1.true fits.into) refl)  -- returns

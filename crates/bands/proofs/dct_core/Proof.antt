@@ -3,13 +3,13 @@ use Rattle.rules.proofs.Common.{List, ap, ◌∙◌, Float}
 use borrow.Author.Rules.{rules}
 use Rattle.rules.specs.F32.{at}
 use Rattle.rules.specs.Tab.{tab}
-use Rattle.bands.specs.Dct.{dctScaled}
-use Rattle.bands.proofs.Sums.{sums-scaled}
+use Rattle.bands.specs.Dct.{dct_scaled}
+use Rattle.bands.proofs.Sums.{sums_scaled}
 use Rattle.bands.proofs.dct_core.Statement.{statement}
 use Rattle.bands.proofs.dct_core.Tie as tie
 
-pub dct-core-spec : {M : Type 1} → statement M
-dct-core-spec =
+pub dct_core_spec : {M : Type 1} → statement M
+dct_core_spec =
     tie.close
     (tie.spec
     (λ c κs. search rules)  -- add-rows-requires
@@ -19,6 +19,6 @@ dct-core-spec =
     (λ c.
     let start = c.before.before.before.before.before.before.before.before.before.before in
     c.before.before.scale-sums.ensures
-    ∙ ap (λ (sums : List Float). tab 22 (λ i. dctScaled (at sums i)))
+    ∙ ap (λ (sums : List Float). tab 22 (λ i. dct_scaled (at sums i)))
     c.before.before.before.before.before.before.add-rows.ensures
-    ∙ sums-scaled start.args.table.now start.args.x.now))  -- returns
+    ∙ sums_scaled start.args.table.now start.args.x.now))  -- returns

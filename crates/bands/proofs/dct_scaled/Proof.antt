@@ -5,21 +5,21 @@ use lib.Ieee.Compare.{differs_from_itself}
 use borrow.Author.Rules.{rules}
 use Rattle.numbers.specs.Narrowed.{narrowed}
 use Rattle.numbers.proofs.NoNan.{real_of}
-use Rattle.bands.specs.Dct.{dctScaled}
-use Rattle.bands.proofs.Scale.{scale-is}
+use Rattle.bands.specs.Dct.{dct_scaled}
+use Rattle.bands.proofs.Scale.{scale_is}
 use Rattle.bands.proofs.dct_scaled.Statement.{statement}
 use Rattle.bands.proofs.dct_scaled.Tie as tie
 
 returns : tie.Need-returns
-unfolding dctScaled div mul of_bits narrowed
+unfolding dct_scaled div mul of_bits narrowed
 returns c = rw (differs_from_itself c.before.args.sum (subst T (sym c.if1.true) tt))
 
 returns-2 : tie.Need-returns-2
-unfolding dctScaled
-returns-2 c = rw scale-is c.narrow.ensures
+unfolding dct_scaled
+returns-2 c = rw scale_is c.narrow.ensures
 
-pub dct-scaled-spec : {M : Type 1} → statement M
-dct-scaled-spec =
+pub dct_scaled_spec : {M : Type 1} → statement M
+dct_scaled_spec =
     tie.close
     (tie.spec
     returns  -- returns

@@ -5,8 +5,8 @@ use lib.Ieee.{of_int}
 use Rattle.rules.specs.Loop.{loop}
 use Rattle.rules.specs.F32.{at}
 use Rattle.rules.proofs.Loops.{turns, begin, more, ended}
-use Rattle.bands.specs.Bands.{edge, frac, gainStep}
-use Rattle.bands.proofs.Edges.{Band, band-of}
+use Rattle.bands.specs.Bands.{edge, frac, gain_step}
+use Rattle.bands.proofs.Edges.{Band, band_of}
 use Rattle.bands.proofs.fill_band.Statement.{statement}
 use Rattle.bands.proofs.fill_band.Tie as tie
 
@@ -15,16 +15,16 @@ invariant-loop out₀ table bands i start size low high bins j₀ out j =
     (j ≤ size) × (length out ≡ 481) × (start ≡ edge i) × (size ≡ edge (i + 1) - edge i) × (start + size ≤ 400)
     × (size ≤ 88)
     × (low ≡ at bands i) × (high ≡ at bands (i + 1)) × (bins ≡ of_int binary32 (pos size))
-    × (out ≡ loop j (gainStep bands i) out₀)
+    × (out ≡ loop j (gain_step bands i) out₀)
 
 abbrev decreases-loop : tie.decreases-loop
 decreases-loop out₀ table bands i start size low high bins j₀ out j = size - j
 
 band : (s : tie.Start invariant-loop decreases-loop) → Band s.args.table.now s.args.i
-band s = band-of _ _ s.requires.1.0 s.requires.1.1
+band s = band_of _ _ s.requires.1.0 s.requires.1.1
 
 loop-again : tie.Need-loop-preserved invariant-loop decreases-loop
-unfolding gainStep frac
+unfolding gain_step frac
 loop-again c =
     let inv = c.before.before.loop.invariant in (
       omega arith,
@@ -39,8 +39,8 @@ loop-again c =
       more _ _ _ inv.9 (rw (inv.8, inv.3, inv.2)),
     )
 
-pub fill-band-spec : {M : Type 1} → statement M
-fill-band-spec =
+pub fill_band_spec : {M : Type 1} → statement M
+fill_band_spec =
     tie.close
     (tie.spec
     invariant-loop

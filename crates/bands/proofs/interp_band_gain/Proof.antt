@@ -6,8 +6,8 @@ use Rattle.rules.proofs.Refusals.{leaves}
 use Rattle.bands.proofs.interp_band_gain.Statement.{statement}
 use Rattle.bands.proofs.interp_band_gain.Tie as tie
 
-pub interp-band-gain-spec : {M : Type 1} → statement M
-interp-band-gain-spec =
+pub interp_band_gain_spec : {M : Type 1} → statement M
+interp_band_gain_spec =
     tie.close
     (tie.spec
     (λ c. refused (λ fits. c.if1.true fits.bins) refl)  -- returns

@@ -4,24 +4,24 @@ use native.Mathlib.Omega.{arith}
 use Rattle.rules.specs.Loop.{loop}
 use Rattle.rules.proofs.Loops.{turns, begin, more, ended}
 use Rattle.rules.specs.F32.{zeros}
-use Rattle.bands.specs.Bands.{edges, inBand, gainStep, bandGain}
+use Rattle.bands.specs.Bands.{edges, in_band, gain_step, band_gain}
 use Rattle.bands.proofs.Shares.{zeros_of}
 use Rattle.bands.proofs.interp_band_gain_core.Statement.{statement}
 use Rattle.bands.proofs.interp_band_gain_core.Tie as tie
 
 abbrev invariant-loop : tie.invariant-loop
 invariant-loop out₀ bands table i₀ out i =
-    (i ≤ 21) × (length out ≡ 481) × (table ≡ edges) × (out ≡ loop i (inBand (gainStep bands)) (zeros 481))
+    (i ≤ 21) × (length out ≡ 481) × (table ≡ edges) × (out ≡ loop i (in_band (gain_step bands)) (zeros 481))
 
 abbrev decreases-loop : tie.decreases-loop
 decreases-loop out₀ bands table i₀ out i = 21 - i
 
 returns : tie.Need-returns invariant-loop decreases-loop
-unfolding bandGain
+unfolding band_gain
 returns c = ended _ _ c.before.loop.i 21 (omega arith) (omega arith) c.before.loop.invariant.3
 
-pub interp-band-gain-core-spec : {M : Type 1} → statement M
-interp-band-gain-core-spec =
+pub interp_band_gain_core_spec : {M : Type 1} → statement M
+interp_band_gain_core_spec =
     tie.close
     (tie.spec
     invariant-loop

@@ -4,7 +4,7 @@ use Rattle.rules.proofs.Common.{◌-◌, ◌≤◌, ◌≡◌, refl, sym, ◌∙
 use native.Mathlib.Omega.{arith}
 use Rattle.rules.proofs.Loops.{turns}
 use Rattle.checksum.specs.Checksum.{crc}
-use Rattle.checksum.proofs.Parts.{crc-more, crc-ended}
+use Rattle.checksum.proofs.Parts.{crc_more, crc_ended}
 use Rattle.checksum.proofs.update.Statement.{statement}
 use Rattle.checksum.proofs.update.Tie as tie
 
@@ -20,12 +20,12 @@ loop-again c =
     let l = c.before.before.before.before.loop in (
       omega arith,
       refl,
-      l.invariant.2 ∙ crc-more _ l.register l.i (omega arith)
+      l.invariant.2 ∙ crc_more _ l.register l.i (omega arith)
           ∙ rw (c.before.wide.ensures, c.before.before.before.before.before.before.requires),
     )
 
-pub update-spec : {M : Type 1} → statement M
-update-spec =
+pub update_spec : {M : Type 1} → statement M
+update_spec =
     tie.close
     (tie.spec
     invariant-loop
@@ -39,4 +39,4 @@ update-spec =
     (λ c. search turns)  -- add-i
     (λ c. search turns)  -- loop-less
     loop-again
-    (λ c. let l = c.before.loop in sym (l.invariant.2 ∙ crc-ended _ _ l.i (omega arith))))  -- returns
+    (λ c. let l = c.before.loop in sym (l.invariant.2 ∙ crc_ended _ _ l.i (omega arith))))  -- returns

@@ -17,14 +17,14 @@ returns-2 : tie.Need-returns-2
 returns-2 c = let p = past c in
     record {
       number = c.before.before.gate.ensures;
-      inOrder = omega arith;
+      in_order = omega arith;
       within = omega arith;
       inside = omega arith;
       share = λ _. (refl, refl, refl);
     }
 
-pub admit-spec : {M : Type 1} → statement M
-admit-spec =
+pub admit_spec : {M : Type 1} → statement M
+admit_spec =
     tie.close
     (tie.spec
     (λ c κs. search rules)  -- gate-requires

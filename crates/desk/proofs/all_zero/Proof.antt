@@ -2,18 +2,18 @@
 use borrow.Author.Rules.{rules}
 use borrow.Author.Tests.{eq-eqb}
 use Rattle.rules.proofs.Common.{ℕ, true, ◌≡◌, eqb}
-use Rattle.rules.proofs.Tests.{tests, answered-no, answered-yes}
+use Rattle.rules.proofs.Tests.{tests, answered_no, answered_yes}
 use Rattle.desk.specs.declared.Record.{Record}
-use Rattle.desk.specs.Gate.{idle, wayNumber, allZero}
+use Rattle.desk.specs.Gate.{idle, way_number, all_zero}
 use Rattle.desk.proofs.all_zero.Statement.{statement}
 use Rattle.desk.proofs.all_zero.Tie as tie
 
 -- where everything else is 0, the way decides
 by_way : (rec : Record) {n : ℕ} → rec.hearing.index ≡ 0 → rec.hearing.vad ≡ 0 → rec.hearing.noise ≡ 0
     → rec.hearing.denoise ≡ 0
-    → rec.frame ≡ 0 → rec.heard ≡ 0 → idle rec ≡ true → rec.progress ≡ 0 → n ≡ wayNumber rec.hearing.way
-    → eqb n 0 ≡ allZero rec
-unfolding allZero
+    → rec.frame ≡ 0 → rec.heard ≡ 0 → idle rec ≡ true → rec.progress ≡ 0 → n ≡ way_number rec.hearing.way
+    → eqb n 0 ≡ all_zero rec
+unfolding all_zero
 by_way rec i v n d f h k p w =
     rw (
       eq-eqb rec.hearing.index 0 i,
@@ -39,11 +39,11 @@ returns-9 c =
     let index = vad.before.before in
     by_way _ index.if1.false vad.if2.false noise.if3.false denoise.if4.false frame.if5.false
     heard.if6.false
-    (answered-yes idle.before.idle.ensures idle.if7.false) progress.if8.false c.way-number.ensures
+    (answered_yes idle.before.idle.ensures idle.if7.false) progress.if8.false c.way-number.ensures
 
-pub all-zero-spec : {M : Type 1} → statement M
-unfolding allZero
-all-zero-spec =
+pub all_zero_spec : {M : Type 1} → statement M
+unfolding all_zero
+all_zero_spec =
     tie.close
     (tie.spec
     (λ c. search tests)  -- returns
@@ -53,11 +53,11 @@ all-zero-spec =
     (λ c. search tests)  -- returns-5
     (λ c. search tests)  -- returns-6
     (λ c κs. search rules)  -- idle-requires
-    (λ c. search (tests, answered-no c.before.idle.ensures c.if7.true))  -- returns-7
+    (λ c. search (tests, answered_no c.before.idle.ensures c.if7.true))  -- returns-7
     (λ c.
     search (
       tests,
-      answered-yes c.before.before.before.idle.ensures c.before.before.if7.false,
+      answered_yes c.before.before.before.idle.ensures c.before.before.if7.false,
     ))  -- returns-8
     (λ c κs. search rules)  -- way-number-requires
     returns-9)

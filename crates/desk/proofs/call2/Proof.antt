@@ -2,7 +2,7 @@
 -- `frame::call2`. Assumes nothing.
 use borrow.Author.Rules.{rules}
 use Rattle.rules.specs.Place.{get, put}
-use Rattle.desk.proofs.Serve.{turned-away, framed}
+use Rattle.desk.proofs.Serve.{turned_away_lem, framed}
 use Rattle.desk.proofs.call2.Statement.{statement}
 use Rattle.desk.proofs.call2.Tie as tie
 
@@ -14,14 +14,14 @@ returns-2 c =
     framed _ _ _ _ _ _ _ _ o.before.admit.ensures.number o.if1.false o.before.admit.ensures.share
     k.call2.ensures (λ e. rw e) c.told.ensures
 
-pub call2-spec : {M : Type 1} → statement M
+pub call2_spec : {M : Type 1} → statement M
 unfolding get put
-call2-spec =
+call2_spec =
     tie.close
     (tie.spec
     (λ c κs. search rules)  -- admit-requires
     (λ c κs. search rules)  -- turned-away-requires
-    (λ c. search turned-away depth 1)  -- returns
+    (λ c. search turned_away_lem depth 1)  -- returns
     (λ c. search rules)  -- mul-call2
     (λ c. search rules)  -- sub-call2
     (λ c. search rules)  -- part-call2-start

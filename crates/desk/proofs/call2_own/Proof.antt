@@ -2,7 +2,7 @@
 -- `halves::call2_own`. Assumes nothing.
 use borrow.Author.Rules.{rules}
 use Rattle.rules.specs.Place.{get, put}
-use Rattle.desk.proofs.Serve.{turned-away, framed}
+use Rattle.desk.proofs.Serve.{turned_away_lem, framed}
 use Rattle.desk.proofs.call2_own.Statement.{statement}
 use Rattle.desk.proofs.call2_own.Tie as tie
 
@@ -14,14 +14,14 @@ returns-2 c =
     framed _ _ _ _ _ _ _ _ o.before.admit.ensures.number o.if1.false o.before.admit.ensures.share
     k.call2-own.ensures (λ e. rw e) c.told.ensures
 
-pub call2-own-spec : {M : Type 1} → statement M
+pub call2_own_spec : {M : Type 1} → statement M
 unfolding get put
-call2-own-spec =
+call2_own_spec =
     tie.close
     (tie.spec
     (λ c κs. search rules)  -- admit-requires
     (λ c κs. search rules)  -- turned-away-requires
-    (λ c. search turned-away depth 1)  -- returns
+    (λ c. search turned_away_lem depth 1)  -- returns
     (λ c. search rules)  -- mul-call2-own
     (λ c. search rules)  -- sub-call2-own
     (λ c. search rules)  -- part-call2-own-start

@@ -2,7 +2,7 @@
 -- `frame::call3`. Assumes nothing.
 use borrow.Author.Rules.{rules}
 use Rattle.rules.specs.Place.{get, put}
-use Rattle.desk.proofs.Serve.{turned-away, framed}
+use Rattle.desk.proofs.Serve.{turned_away_lem, framed}
 use Rattle.desk.proofs.call3.Statement.{statement}
 use Rattle.desk.proofs.call3.Tie as tie
 
@@ -14,14 +14,14 @@ returns-2 c =
     framed _ _ _ _ _ _ _ _ o.before.admit.ensures.number o.if1.false o.before.admit.ensures.share
     k.call3.ensures (λ e. rw e) c.told.ensures
 
-pub call3-spec : {M : Type 1} → statement M
+pub call3_spec : {M : Type 1} → statement M
 unfolding get put
-call3-spec =
+call3_spec =
     tie.close
     (tie.spec
     (λ c κs. search rules)  -- admit-requires
     (λ c κs. search rules)  -- turned-away-requires
-    (λ c. search turned-away depth 1)  -- returns
+    (λ c. search turned_away_lem depth 1)  -- returns
     (λ c. search rules)  -- mul-call3
     (λ c. search rules)  -- sub-call3
     (λ c. search rules)  -- part-call3-start

@@ -5,9 +5,9 @@ use Rattle.desk.specs.Desk.{carried}
 use Rattle.desk.proofs.carried.Statement.{statement}
 use Rattle.desk.proofs.carried.Tie as tie
 
-pub carried-spec : {M : Type 1} → statement M
+pub carried_spec : {M : Type 1} → statement M
 unfolding carried
-carried-spec =
+carried_spec =
     tie.close
     (tie.spec
     (λ c κs. search rules)  -- holding-requires

@@ -1,12 +1,12 @@
 -- `desk::in_counts` meets its contract: each answer by the tests that lead to it. Assumes nothing.
 use Rattle.rules.proofs.Tests.{tests}
-use Rattle.desk.specs.Gate.{inCounts}
+use Rattle.desk.specs.Gate.{in_counts}
 use Rattle.desk.proofs.in_counts.Statement.{statement}
 use Rattle.desk.proofs.in_counts.Tie as tie
 
-pub in-counts-spec : {M : Type 1} → statement M
-unfolding inCounts
-in-counts-spec =
+pub in_counts_spec : {M : Type 1} → statement M
+unfolding in_counts
+in_counts_spec =
     tie.close
     (tie.spec
     (λ c. search tests)  -- returns

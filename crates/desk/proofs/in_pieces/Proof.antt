@@ -5,9 +5,9 @@ use Rattle.desk.specs.Gate.{in_pieces}
 use Rattle.desk.proofs.in_pieces.Statement.{statement}
 use Rattle.desk.proofs.in_pieces.Tie as tie
 
-pub in-pieces-spec : {M : Type 1} → statement M
+pub in_pieces_spec : {M : Type 1} → statement M
 unfolding in_pieces
-in-pieces-spec =
+in_pieces_spec =
     tie.close
     (tie.spec
     (λ c κs. search rules)  -- resting-requires

@@ -1,13 +1,13 @@
 -- `desk::is_due` meets its contract: each answer by the tests that lead to it. Assumes nothing.
 use borrow.Author.Rules.{rules}
 use Rattle.rules.proofs.Tests.{tests}
-use Rattle.desk.specs.Gate.{isDue}
+use Rattle.desk.specs.Gate.{is_due}
 use Rattle.desk.proofs.is_due.Statement.{statement}
 use Rattle.desk.proofs.is_due.Tie as tie
 
-pub is-due-spec : {M : Type 1} → statement M
-unfolding isDue
-is-due-spec =
+pub is_due_spec : {M : Type 1} → statement M
+unfolding is_due
+is_due_spec =
     tie.close
     (tie.spec
     (λ c. search tests)  -- returns

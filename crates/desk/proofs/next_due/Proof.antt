@@ -4,8 +4,8 @@ use Rattle.rules.proofs.Tests.{tests}
 use Rattle.desk.proofs.next_due.Statement.{statement}
 use Rattle.desk.proofs.next_due.Tie as tie
 
-pub next-due-spec : {M : Type 1} → statement M
-next-due-spec =
+pub next_due_spec : {M : Type 1} → statement M
+next_due_spec =
     tie.close
     (tie.spec
     (λ c. search rules)  -- add-result

@@ -3,8 +3,8 @@ use borrow.Author.Rules.{rules}
 use Rattle.desk.proofs.next_heard.Statement.{statement}
 use Rattle.desk.proofs.next_heard.Tie as tie
 
-pub next-heard-spec : {M : Type 1} → statement M
-next-heard-spec =
+pub next_heard_spec : {M : Type 1} → statement M
+next_heard_spec =
     tie.close
     (tie.spec
     (λ c. search rules)  -- enum_told

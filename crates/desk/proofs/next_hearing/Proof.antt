@@ -3,9 +3,9 @@ use borrow.Author.Rules.{rules}
 use Rattle.desk.proofs.next_hearing.Statement.{statement}
 use Rattle.desk.proofs.next_hearing.Tie as tie
 
-pub next-hearing-spec : {M : Type 1} → statement M
-next-hearing-spec =
+pub next_hearing_spec : {M : Type 1} → statement M
+next_hearing_spec =
     tie.close
     (tie.spec
     (λ c κs. search rules)  -- next-index-requires
-    (λ c. search (rules, c.next-index.ensures)))  -- returns
+    (λ c. search (rules, c.next_index.ensures)))  -- returns

@@ -4,8 +4,8 @@ use Rattle.rules.proofs.Tests.{tests}
 use Rattle.desk.proofs.next_index.Statement.{statement}
 use Rattle.desk.proofs.next_index.Tie as tie
 
-pub next-index-spec : {M : Type 1} → statement M
-next-index-spec =
+pub next_index_spec : {M : Type 1} → statement M
+next_index_spec =
     tie.close
     (tie.spec
     (λ c. search rules)  -- enum_told

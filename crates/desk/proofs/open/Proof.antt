@@ -2,7 +2,7 @@
 -- Assumes nothing.
 use borrow.Author.Rules.{rules}
 use Rattle.rules.specs.Place.{get, put}
-use Rattle.desk.proofs.Serve.{turned-away, misread, wiped}
+use Rattle.desk.proofs.Serve.{turned_away_lem, misread, wiped}
 use Rattle.desk.proofs.open.Statement.{statement}
 use Rattle.desk.proofs.open.Tie as tie
 
@@ -24,7 +24,7 @@ open_spec =
     (tie.spec
     (λ c κs. search rules)  -- admit-requires
     (λ c κs. search rules)  -- turned-away-requires
-    (λ c. search turned-away depth 1)  -- returns
+    (λ c. search turned_away_lem depth 1)  -- returns
     (λ c κs. search rules)  -- read-requires
     (λ c κs. search rules)  -- opened-requires
     (λ c κs. search rules)  -- passed-requires

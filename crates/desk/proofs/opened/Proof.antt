@@ -6,8 +6,8 @@ use Rattle.desk.specs.Private.{opened_of}
 use Rattle.desk.proofs.opened.Statement.{statement}
 use Rattle.desk.proofs.opened.Tie as tie
 
-pub opened-spec : {M : Type 1} → statement M
-opened-spec =
+pub opened_spec : {M : Type 1} → statement M
+opened_spec =
     tie.close
     (tie.spec
     (λ c. search rules)  -- enum-known-read

@@ -4,9 +4,9 @@ use Rattle.desk.specs.Gate.{resting}
 use Rattle.desk.proofs.resting.Statement.{statement}
 use Rattle.desk.proofs.resting.Tie as tie
 
-pub resting-spec : {M : Type 1} → statement M
+pub resting_spec : {M : Type 1} → statement M
 unfolding resting
-resting-spec =
+resting_spec =
     tie.close
     (tie.spec
     (λ c. search tests)  -- returns

@@ -2,7 +2,7 @@
 -- `halves::second_half`. Assumes nothing.
 use borrow.Author.Rules.{rules}
 use Rattle.rules.specs.Place.{get, put}
-use Rattle.desk.proofs.Serve.{turned-away, framed}
+use Rattle.desk.proofs.Serve.{turned_away_lem, framed}
 use Rattle.desk.proofs.second_half.Statement.{statement}
 use Rattle.desk.proofs.second_half.Tie as tie
 
@@ -14,14 +14,14 @@ returns-2 c =
     framed _ _ _ _ _ _ _ _ o.before.admit.ensures.number o.if1.false o.before.admit.ensures.share
     k.second-half.ensures (λ e. rw e) c.told-second.ensures
 
-pub second-half-spec : {M : Type 1} → statement M
+pub second_half_spec : {M : Type 1} → statement M
 unfolding get put
-second-half-spec =
+second_half_spec =
     tie.close
     (tie.spec
     (λ c κs. search rules)  -- admit-requires
     (λ c κs. search rules)  -- turned-away-requires
-    (λ c. search turned-away depth 1)  -- returns
+    (λ c. search turned_away_lem depth 1)  -- returns
     (λ c. search rules)  -- mul-second-half
     (λ c. search rules)  -- sub-second-half
     (λ c. search rules)  -- part-second-half-start

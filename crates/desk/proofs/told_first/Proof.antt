@@ -4,8 +4,8 @@ use Rattle.desk.proofs.Twice.{twice}
 use Rattle.desk.proofs.told_first.Statement.{statement}
 use Rattle.desk.proofs.told_first.Tie as tie
 
-pub told-first-spec : {M : Type 1} → statement M
-told-first-spec =
+pub told_first_spec : {M : Type 1} → statement M
+told_first_spec =
     tie.close
     (tie.spec
     (λ c κs. search rules)  -- told-requires

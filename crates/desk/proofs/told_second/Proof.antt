@@ -1,6 +1,6 @@
 -- `desk::told_second` meets its contract. Assumes nothing.
 use borrow.Author.Rules.{rules}
-use Rattle.rules.proofs.Tests.{tests, answered-no, answered-yes}
+use Rattle.rules.proofs.Tests.{tests, answered_no, answered_yes}
 use Rattle.desk.proofs.Twice.{lastly}
 use Rattle.desk.proofs.told_second.Statement.{statement}
 use Rattle.desk.proofs.told_second.Tie as tie
@@ -10,15 +10,15 @@ returns-2 c =
     let t = c.before.before in
     let e = t.before in
     let a = e.before.before.args in
-    lastly a.rec a.reply (answered-yes e.before.passed.ensures e.if1.false) t.told.ensures
+    lastly a.rec a.reply (answered_yes e.before.passed.ensures e.if1.false) t.told.ensures
     c.numbered.ensures
 
-pub told-second-spec : {M : Type 1} → statement M
-told-second-spec =
+pub told_second_spec : {M : Type 1} → statement M
+told_second_spec =
     tie.close
     (tie.spec
     (λ c κs. search rules)  -- passed-requires
-    (λ c. search (tests, answered-no c.before.passed.ensures c.if1.true))  -- returns
+    (λ c. search (tests, answered_no c.before.passed.ensures c.if1.true))  -- returns
     (λ c κs. search rules)  -- told-requires
     (λ c κs. search rules)  -- numbered-requires
     returns-2)

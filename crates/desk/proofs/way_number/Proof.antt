@@ -3,8 +3,8 @@ use borrow.Author.Rules.{rules}
 use Rattle.desk.proofs.way_number.Statement.{statement}
 use Rattle.desk.proofs.way_number.Tie as tie
 
-pub way-number-spec : {M : Type 1} → statement M
-way-number-spec =
+pub way_number_spec : {M : Type 1} → statement M
+way_number_spec =
     tie.close
     (tie.spec
     (λ c. search rules)  -- enum-told

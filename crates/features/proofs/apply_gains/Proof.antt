@@ -4,7 +4,7 @@ use native.Mathlib.Omega.{arith}
 use Rattle.rules.specs.F32.{◌⊗◌, at}
 use Rattle.rules.specs.Leaf.{done, refused}
 use Rattle.rules.proofs.Refusals.{leaves}
-use Rattle.rules.proofs.Lists.{Filling, fills, filling-more, filling-ahead}
+use Rattle.rules.proofs.Lists.{Filling, fills, filling_more, filling_ahead}
 use Rattle.rules.specs.Spectrum.{bin_of}
 use Rattle.features.specs.Pitch.{applied}
 use Rattle.features.proofs.apply_gains.Statement.{statement}
@@ -20,12 +20,12 @@ loop-again : tie.Need-loop-preserved invariant-loop decreases-loop
 loop-again c =
     let l = c.before.before.before.loop in (
       omega arith,
-      filling-more _ _ _ l.invariant.1 (omega arith) (rw (filling-ahead _ _ l.n l.n nan l.invariant.1 (omega arith))),
+      filling_more _ _ _ l.invariant.1 (omega arith) (rw (filling_ahead _ _ l.n l.n nan l.invariant.1 (omega arith))),
     )
 
-pub apply-gains-spec : {M : Type 1} → statement M
+pub apply_gains_spec : {M : Type 1} → statement M
 unfolding applied
-apply-gains-spec =
+apply_gains_spec =
     tie.close
     (tie.spec
     invariant-loop

@@ -3,8 +3,8 @@ use Rattle.rules.proofs.Common.{◌-◌, ◌≤◌, refl, nan}
 use native.Mathlib.Omega.{arith}
 use Rattle.rules.specs.F32.{at}
 use Rattle.rules.specs.Leaf.{done, refused}
-use Rattle.rules.proofs.Refusals.{leave-both}
-use Rattle.rules.proofs.Lists.{Filling, fills, filling-more, filling-ahead}
+use Rattle.rules.proofs.Refusals.{leave_both}
+use Rattle.rules.proofs.Lists.{Filling, fills, filling_more, filling_ahead}
 use Rattle.features.specs.Gains.{at_least, gained}
 use Rattle.features.proofs.hold_gains.Statement.{statement}
 use Rattle.features.proofs.hold_gains.Tie as tie
@@ -20,14 +20,14 @@ decreases-loop g₀ last₀ i₀ g last i = 22 - i
 loop-again : tie.Need-loop-preserved invariant-loop decreases-loop
 loop-again c =
     let l = c.before.before.before.before.loop in
-    let ahead-g = filling-ahead _ _ l.i l.i nan l.invariant.1 (omega arith) in
-    let ahead-last = filling-ahead _ _ l.i l.i nan l.invariant.2 (omega arith) in
+    let ahead-g = filling_ahead _ _ l.i l.i nan l.invariant.1 (omega arith) in
+    let ahead-last = filling_ahead _ _ l.i l.i nan l.invariant.2 (omega arith) in
     let is = rw (ahead-g, ahead-last) at c.max.ensures in
-    (omega arith, filling-more _ _ _ l.invariant.1 (omega arith) is, filling-more _ _ _ l.invariant.2 (omega arith) is)
+    (omega arith, filling_more _ _ _ l.invariant.1 (omega arith) is, filling_more _ _ _ l.invariant.2 (omega arith) is)
 
-pub hold-gains-spec : {M : Type 1} → statement M
+pub hold_gains_spec : {M : Type 1} → statement M
 unfolding gained
-hold-gains-spec =
+hold_gains_spec =
     tie.close
     (tie.spec
     invariant-loop
@@ -49,4 +49,4 @@ hold-gains-spec =
     loop-again
     (λ c. search fills)  -- same-length
     (λ c. search fills)  -- same-length-2
-    (λ c. done (search fills) (leave-both (search fills) (search fills))))  -- returns-3
+    (λ c. done (search fills) (leave_both (search fills) (search fills))))  -- returns-3

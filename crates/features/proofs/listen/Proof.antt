@@ -5,19 +5,19 @@ use borrow.Author.Rules.{rules}
 use Rattle.rules.specs.Leaf.{done, refused}
 use Rattle.rules.specs.Loop.{loop}
 use Rattle.rules.proofs.Loops.{turns, ended}
-use Rattle.features.specs.Silence.{energyStep, energy, soundOf}
+use Rattle.features.specs.Silence.{energy_step, energy, sound_of}
 use Rattle.features.proofs.listen.Statement.{statement}
 use Rattle.features.proofs.listen.Tie as tie
 
 abbrev invariant-loop : tie.invariant-loop
-invariant-loop ex e₀ i₀ e i = (i ≤ 22) × (e ≡ loop i (energyStep ex) e₀)
+invariant-loop ex e₀ i₀ e i = (i ≤ 22) × (e ≡ loop i (energy_step ex) e₀)
 
 abbrev decreases-loop : tie.decreases-loop
 decreases-loop ex e₀ i₀ e i = 22 - i
 
-pub listen-spec : {M : Type 1} → statement M
+pub listen_spec : {M : Type 1} → statement M
 unfolding energy
-listen-spec =
+listen_spec =
     tie.close
     (tie.spec
     invariant-loop
@@ -31,5 +31,5 @@ listen-spec =
     (λ c. search turns)  -- loop-again
     (λ c κs. search turns)  -- sound-of-requires
     (λ c. done (search rules)
-    (c.sound-of.ensures ∙ ap soundOf
+    (c.sound-of.ensures ∙ ap sound_of
     (ended _ _ _ 22 (omega arith) (omega arith) c.before.before.loop.invariant.1))))  -- returns-2

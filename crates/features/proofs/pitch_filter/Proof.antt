@@ -6,8 +6,8 @@ use Rattle.rules.proofs.Refusals.{leaves}
 use Rattle.features.proofs.pitch_filter.Statement.{statement}
 use Rattle.features.proofs.pitch_filter.Tie as tie
 
-pub pitch-filter-spec : {M : Type 1} → statement M
-pitch-filter-spec =
+pub pitch_filter_spec : {M : Type 1} → statement M
+pitch_filter_spec =
     tie.close
     (tie.spec
     (λ c. refused (λ fits. c.if1.true fits.spectrum) refl)  -- returns
@@ -15,7 +15,7 @@ pitch-filter-spec =
     (λ c. refused (λ fits. c.if3.true fits.wanted) refl)  -- returns-3
     (λ c. refused (λ fits. c.if4.true fits.correlations) refl)  -- returns-4
     (λ c. refused (λ fits. c.if5.true fits.energies) refl)  -- returns-5
-    (λ c. refused (λ fits. c.if6.true fits.laggedEnergies) refl)  -- returns-6
+    (λ c. refused (λ fits. c.if6.true fits.lagged_energies) refl)  -- returns-6
     (λ c. search rules)  -- slice-aggregate-filter
     (λ c. search rules)  -- slice-aggregate-filter-2
     (λ c κs. search rules)  -- filter-requires

@@ -5,8 +5,8 @@ use Rattle.feed.proofs.Handed.{handed, unhanded}
 use Rattle.feed.proofs.clean.Statement.{statement}
 use Rattle.feed.proofs.clean.Tie as tie
 
-pub clean-spec : {M : Type 1} → statement M
-clean-spec =
+pub clean_spec : {M : Type 1} → statement M
+clean_spec =
     tie.close
     (tie.spec
     (λ c. search rules)  -- add-frames

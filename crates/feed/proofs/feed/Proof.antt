@@ -2,7 +2,7 @@
 use Rattle.rules.proofs.Common.{◌≤◌, refl, sym, ◌∙◌}
 use borrow.Author.Rules.{rules}
 use Rattle.rules.proofs.Refusals.{left}
-use Rattle.rules.proofs.Tests.{answered-yes}
+use Rattle.rules.proofs.Tests.{answered_yes}
 use Rattle.desk.specs.Gate.{gate}
 use Rattle.feed.proofs.Handed.{turned, shut, fed, sized, part_length, ready}
 use Rattle.feed.proofs.feed.Statement.{statement}
@@ -10,10 +10,10 @@ use Rattle.feed.proofs.feed.Tie as tie
 
 -- how many samples there are, behind the tests
 many : (c : tie.Else2) → c.before.before.samples-in.result ≤ 4096
-many c = (sized _ _ _ _ _ (answered-yes c.before.fits2.ensures c.if2.false)).2
+many c = (sized _ _ _ _ _ (answered_yes c.before.fits2.ensures c.if2.false)).2
 
-pub feed-spec : {M : Type 1} → statement M
-feed-spec =
+pub feed_spec : {M : Type 1} → statement M
+feed_spec =
     tie.close
     (tie.spec
     (λ c κs. search rules)  -- gate-requires

@@ -1,11 +1,11 @@
 -- `fft::forward_core` meets its contract. Assumes nothing.
 use borrow.Author.Rules.{rules}
-use Rattle.fft.proofs.Ends.{forward-right}
+use Rattle.fft.proofs.Ends.{forward_right}
 use Rattle.fft.proofs.forward_core.Statement.{statement}
 use Rattle.fft.proofs.forward_core.Tie as tie
 
-pub forward-core-spec : {M : Type 1} → statement M
-forward-core-spec =
+pub forward_core_spec : {M : Type 1} → statement M
+forward_core_spec =
     tie.close
     (tie.spec
     (λ c κs. search rules)  -- all-requires
@@ -15,7 +15,7 @@ forward-core-spec =
     (λ c κs. search rules)  -- spectrum-requires
     (λ c. search rules)  -- same-length
     (λ c.
-    forward-right
+    forward_right
     c.before.before.before.before.before.before.before.before.before.before.before.before.before.before.before.before.args.x.now c.before.before.spectrum.ensures
     c.before.before.before.before.before.before.transform.ensures
     c.before.before.before.before.before.before.before.before.before.before.before.pack.ensures

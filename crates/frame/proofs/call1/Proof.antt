@@ -4,14 +4,14 @@ use Rattle.rules.proofs.Common.{Float}
 use native.Mathlib.Omega.{arith}
 use borrow.Author.Rules.{rules}
 use Rattle.rules.specs.Place.{get, put}
-use Rattle.rules.proofs.Places.{put-sets}
-use Rattle.rules.proofs.Tests.{tests, answered-no, answered-yes}
+use Rattle.rules.proofs.Places.{put_sets}
+use Rattle.rules.proofs.Tests.{tests, answered_no, answered_yes}
 use Rattle.numbers.specs.declared.filter.Memory.{Memory}
-use Rattle.frame.specs.Share.{inputMem, memHpX}
-use Rattle.numbers.specs.Filter.{memoryList}
+use Rattle.frame.specs.Share.{input_mem, mem_hp_x}
+use Rattle.numbers.specs.Filter.{memory_list}
 use Rattle.frame.specs.Frame.{call1}
-use Rattle.frame.proofs.Done.{call1-done}
-use Rattle.frame.proofs.Sizes.{at-get}
+use Rattle.frame.proofs.Done.{call1_done}
+use Rattle.frame.proofs.Sizes.{at_get}
 use Rattle.frame.proofs.call1.Statement.{statement}
 use Rattle.frame.proofs.call1.Tie as tie
 
@@ -29,7 +29,7 @@ returns-3 c = search tests
 
 returns-4 : tie.Need-returns-4
 unfolding call1
-returns-4 c = search (tests, answered-no c.before.all-good.ensures c.if4.true)
+returns-4 c = search (tests, answered_no c.before.all_good.ensures c.if4.true)
 
 returns-5 : tie.Need-returns-5
 unfolding put get
@@ -38,24 +38,24 @@ returns-5 c =
     let g = c.before.before.before.before.before.before.before.before.before in
     let a = g.before.before.before.before.before.before.before.before.args in
     let share = a.share.now in
-    let fine = answered-yes g.before.all-good.ensures g.if4.false in
+    let fine = answered_yes g.before.all_good.ensures g.if4.false in
     rw (
-      call1-done share (omega arith) a.samples.now (length a.window.now) (omega arith) (omega arith) fine,
-      at-get memHpX share 0 (omega arith),
-      at-get memHpX share 1 (omega arith),
+      call1_done share (omega arith) a.samples.now (length a.window.now) (omega arith) (omega arith) fine,
+      at_get mem_hp_x share 0 (omega arith),
+      at_get mem_hp_x share 1 (omega arith),
     )
     (record {
       answers = refl;
       keeps =
-          put-sets (put inputMem share w.new.0) (memoryList w.result) 3192
+          put_sets (put input_mem share w.new.0) (memory_list w.result) 3192
           (simp (length-append, length-drop) (omega arith))
-          ∙ ap₂ (λ (mem : List Float) (m : Memory). put memHpX (put inputMem share mem) (memoryList m))
+          ∙ ap₂ (λ (mem : List Float) (m : Memory). put mem_hp_x (put input_mem share mem) (memory_list m))
           w.ensures.1.0 w.ensures.0;
       writes = ap (λ (l : List Float). l ∷ []) w.ensures.1.1;
     })
 
-pub call1-spec : {M : Type 1} → statement M
-call1-spec =
+pub call1_spec : {M : Type 1} → statement M
+call1_spec =
     tie.close
     (tie.spec
     returns

@@ -6,8 +6,8 @@ use Rattle.rules.proofs.Refusals.{left as fitted}
 use Rattle.rules.proofs.Tests.{tests}
 use Rattle.bands.specs.Windowed.{windowed}
 use Rattle.frame.specs.Frame.{call2}
-use Rattle.frame.proofs.Done.{call2-done}
-use Rattle.frame.proofs.Sizes.{looked-at}
+use Rattle.frame.proofs.Done.{call2_done}
+use Rattle.frame.proofs.Sizes.{looked_at}
 use Rattle.frame.proofs.call2.Statement.{statement}
 use Rattle.frame.proofs.call2.Tie as tie
 
@@ -41,18 +41,18 @@ returns-6 c =
     let lag = a.lag.0 in
     let window = fitted w.apply-window.ensures
     (record { into = omega arith; from = simp (length-take, length-drop) (omega arith) }) in
-    rw (call2-done share (omega arith) a.spectrum.now lag (length a.window.now) (length a.sums.now)
+    rw (call2_done share (omega arith) a.spectrum.now lag (length a.window.now) (length a.sums.now)
     (omega arith) (omega arith) (omega arith) (omega arith))
     (record {
       answers = refl;
       keeps = n.note.ensures.0;
       writes =
           ap₂ (λ (x y : List Float). x ∷ y ∷ [])
-          (window ∙ ap windowed (looked-at share lag (omega arith) (omega arith))) n.note.ensures.1;
+          (window ∙ ap windowed (looked_at share lag (omega arith) (omega arith))) n.note.ensures.1;
     })
 
-pub call2-spec : {M : Type 1} → statement M
-call2-spec =
+pub call2_spec : {M : Type 1} → statement M
+call2_spec =
     tie.close
     (tie.spec
     returns

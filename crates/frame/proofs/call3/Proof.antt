@@ -3,9 +3,9 @@ use Rattle.rules.proofs.Common.{[], ◌∷◌, length}
 use native.Mathlib.Omega.{arith}
 use borrow.Author.Rules.{rules}
 use Rattle.model.specs.Model.{read_of}
-use Rattle.rules.proofs.Tests.{tests, answered-no, answered-yes}
+use Rattle.rules.proofs.Tests.{tests, answered_no, answered_yes}
 use Rattle.frame.specs.Frame.{counted, done3, call3}
-use Rattle.frame.proofs.Done.{call3-done, modelled-no, modelled-yes}
+use Rattle.frame.proofs.Done.{call3_done, modelled_no, modelled_yes}
 use Rattle.frame.proofs.call3.Statement.{statement}
 use Rattle.frame.proofs.call3.Tie as tie
 
@@ -34,11 +34,11 @@ returns-6 c =
     let k = c.before.before in
     let a = k.before.before.before.before.before.before.before.before.before.before.before.before.args in
     rw
-    (call3-done a.share.now (omega arith) a.hearing a.spectrum.now a.logs.now a.model.now
+    (call3_done a.share.now (omega arith) a.hearing a.spectrum.now a.logs.now a.model.now
     (length a.out.now) (omega arith) (omega arith) (omega arith) (omega arith))
-    (modelled-no (counted a.hearing) a.share.now (a.out.now ∷ [])
+    (modelled_no (counted a.hearing) a.share.now (a.out.now ∷ [])
     (done3 a.share.now a.hearing.index a.spectrum.now a.logs.now a.model.now)
-    (read_of a.model.now) k.check.ensures (answered-no c.before.passed.ensures c.if6.true))
+    (read_of a.model.now) k.check.ensures (answered_no c.before.passed.ensures c.if6.true))
 
 returns-7 : tie.Need-returns-7
 returns-7 c =
@@ -47,15 +47,15 @@ returns-7 c =
     let k = i.before.before in
     let a = k.before.before.before.before.before.before.before.before.before.before.before.before.args in
     rw
-    (call3-done a.share.now (omega arith) a.hearing a.spectrum.now a.logs.now a.model.now
+    (call3_done a.share.now (omega arith) a.hearing a.spectrum.now a.logs.now a.model.now
     (length a.out.now) (omega arith) (omega arith) (omega arith) (omega arith))
-    (modelled-yes (counted a.hearing) a.share.now (a.out.now ∷ [])
+    (modelled_yes (counted a.hearing) a.share.now (a.out.now ∷ [])
     (done3 a.share.now a.hearing.index a.spectrum.now a.logs.now a.model.now)
-    (read_of a.model.now) k.check.ensures (answered-yes i.before.passed.ensures i.if6.false)
+    (read_of a.model.now) k.check.ensures (answered_yes i.before.passed.ensures i.if6.false)
     l.listen.ensures)
 
-pub call3-spec : {M : Type 1} → statement M
-call3-spec =
+pub call3_spec : {M : Type 1} → statement M
+call3_spec =
     tie.close
     (tie.spec
     returns

@@ -4,9 +4,9 @@ use native.Mathlib.Omega.{arith}
 use borrow.Author.Rules.{rules}
 use Rattle.rules.specs.Place.{get, put}
 use Rattle.rules.proofs.Tests.{tests}
-use Rattle.frame.specs.Share.{synthesisMem}
+use Rattle.frame.specs.Share.{synthesis_mem}
 use Rattle.frame.specs.Frame.{call4}
-use Rattle.frame.proofs.Done.{call4-done}
+use Rattle.frame.proofs.Done.{call4_done}
 use Rattle.frame.proofs.call4.Statement.{statement}
 use Rattle.frame.proofs.call4.Tie as tie
 
@@ -27,16 +27,16 @@ unfolding put get
 returns-4 c =
     let w = c.before.before.before.before in
     let a = w.before.before.before.before.before.before.before.before.before.args in
-    rw (call4-done a.share.now (omega arith) a.inverse.now (length a.out.now) (omega arith)
+    rw (call4_done a.share.now (omega arith) a.inverse.now (length a.out.now) (omega arith)
     (omega arith))
     (record {
       answers = refl;
-      keeps = ap (put synthesisMem a.share.now) w.synthesise.ensures.0;
+      keeps = ap (put synthesis_mem a.share.now) w.synthesise.ensures.0;
       writes = ap (λ (l : List Float). l ∷ []) w.synthesise.ensures.1;
     })
 
-pub call4-spec : {M : Type 1} → statement M
-call4-spec =
+pub call4_spec : {M : Type 1} → statement M
+call4_spec =
     tie.close
     (tie.spec
     returns

@@ -4,8 +4,8 @@ use Rattle.rules.proofs.Tests.{tests}
 use Rattle.frame.proofs.one_more.Statement.{statement}
 use Rattle.frame.proofs.one_more.Tie as tie
 
-pub one-more-spec : {M : Type 1} → statement M
-one-more-spec =
+pub one_more_spec : {M : Type 1} → statement M
+one_more_spec =
     tie.close
     (tie.spec
     (λ c. search rules)  -- add-result

@@ -17,8 +17,8 @@ returns c =
     }))
     (omega arith)
 
-pub correlate-spec : {M : Type 1} → statement M
-correlate-spec =
+pub correlate_spec : {M : Type 1} → statement M
+correlate_spec =
     tie.close
     (tie.spec
     (λ c. search rules)  -- sub-pitch-xcorr

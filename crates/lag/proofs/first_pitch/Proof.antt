@@ -5,8 +5,8 @@ use Rattle.lag.proofs.Joined.{picked}
 use Rattle.lag.proofs.first_pitch.Statement.{statement}
 use Rattle.lag.proofs.first_pitch.Tie as tie
 
-pub first-pitch-spec : {M : Type 1} → statement M
-first-pitch-spec =
+pub first_pitch_spec : {M : Type 1} → statement M
+first_pitch_spec =
     tie.close
     (tie.spec
     (λ c. search rules)  -- slice-aggregate-correlate

@@ -6,8 +6,8 @@ use Rattle.lag.proofs.Joined.{small_of, lagged}
 use Rattle.lag.proofs.lag_core.Statement.{statement}
 use Rattle.lag.proofs.lag_core.Tie as tie
 
-pub lag-core-spec : {M : Type 1} → statement M
-lag-core-spec =
+pub lag_core_spec : {M : Type 1} → statement M
+lag_core_spec =
     tie.close
     (tie.spec
     (λ c. search rules)  -- slice-aggregate-pitch-downsample

@@ -6,8 +6,8 @@ use Rattle.lag.specs.declared.OwnLag.{OwnLag}
 use Rattle.lag.proofs.lag_of.Statement.{statement}
 use Rattle.lag.proofs.lag_of.Tie as tie
 
-pub lag-of-spec : {M : Type 1} → statement M
-lag-of-spec =
+pub lag_of_spec : {M : Type 1} → statement M
+lag_of_spec =
     tie.close
     (tie.spec
     (λ c. refused (λ fits. c.if1.true fits) refl)  -- returns

@@ -9,8 +9,8 @@ invariant-loop bytes layer₀ end layer = Unit
 abbrev decreases-loop : tie.decreases-loop
 decreases-loop bytes layer₀ end layer = 6 - layer
 
-pub good-spec : {M : Type 1} → statement M
-good-spec =
+pub good_spec : {M : Type 1} → statement M
+good_spec =
     tie.close
     (tie.spec
     invariant-loop

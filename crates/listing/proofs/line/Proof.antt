@@ -9,8 +9,8 @@ invariant-loop bytes layer row i₀ t5 t6 i = Unit
 abbrev decreases-loop : tie.decreases-loop
 decreases-loop bytes layer row i₀ t5 t6 i = 6 - i
 
-pub line-spec : {M : Type 1} → statement M
-line-spec =
+pub line_spec : {M : Type 1} → statement M
+line_spec =
     tie.close
     (tie.spec
     invariant-loop

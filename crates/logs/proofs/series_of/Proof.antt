@@ -8,5 +8,5 @@ returns : tie.Need-returns
 unfolding series
 returns c = refl
 
-pub series-of-spec : {M : Type 1} → statement M
-series-of-spec = tie.close (tie.spec returns)
+pub series_of_spec : {M : Type 1} → statement M
+series_of_spec = tie.close (tie.spec returns)

@@ -8,8 +8,8 @@ returns : tie.Need-returns
 unfolding summed
 returns c = cc
 
-pub sum-of-spec : {M : Type 1} → statement M
-sum-of-spec =
+pub sum_of_spec : {M : Type 1} → statement M
+sum_of_spec =
     tie.close
     (tie.spec
     (λ c κs. search rules)  -- lost-of-requires

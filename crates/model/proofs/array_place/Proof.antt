@@ -21,8 +21,8 @@ returns c =
 returns-2 : tie.Need-returns-2
 returns-2 c = rw (sym c.before.before.find.ensures ∙ c.enum_told.given.1) (refl, refl)
 
-pub array-place-spec : {M : Type 1} → statement M
-array-place-spec =
+pub array_place_spec : {M : Type 1} → statement M
+array_place_spec =
     tie.close
     (tie.spec
     (λ c κs. search rules)  -- find-requires

@@ -18,8 +18,8 @@ returns c =
       c.counts-of6.ensures,
     )
 
-pub counts-in-spec : {M : Type 1} → statement M
-counts-in-spec =
+pub counts_in_spec : {M : Type 1} → statement M
+counts_in_spec =
     tie.close
     (tie.spec
     (λ c κs. search rules)  -- counts-of-requires

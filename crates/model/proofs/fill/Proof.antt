@@ -4,7 +4,7 @@ use native.Mathlib.Nat.{mod-lt}
 use native.Mathlib.Omega.{arith}
 use borrow.Author.Rules.{rules}
 use Rattle.rules.specs.Tab.{tab}
-use Rattle.rules.proofs.Lists.{tab-none, tab-more, tab-done}
+use Rattle.rules.proofs.Lists.{tab_none, tab_more, tab_done}
 use Rattle.model.specs.Model.{read_of}
 use Rattle.model.specs.Summary.{number_in}
 use Rattle.model.proofs.Bounds.{line_small}
@@ -20,7 +20,7 @@ decreases-loop numbers₀ bytes i₀ numbers i = 30 - i
 
 loop-holds : tie.Need-loop-init invariant-loop decreases-loop
 loop-holds c = let a = c.before.before.args in
-    (omega arith, c.before.before.requires, tab-none (number_in (read_of a.bytes.now)) a.numbers.now)
+    (omega arith, c.before.before.requires, tab_none (number_in (read_of a.bytes.now)) a.numbers.now)
 
 array-read-numbers : tie.Need-array-read-numbers invariant-loop decreases-loop
 array-read-numbers c = omega (arith, mod-lt c.before.before.loop.i {m = 5} (omega arith))
@@ -39,7 +39,7 @@ loop-again c =
     let row = number_in (read_of a.bytes.now) in (
       omega arith,
       simp length-set l.loop.invariant.1,
-      tab-more row a.numbers.now l.loop.numbers l.loop.i _ l.loop.invariant.2 (rw c.line.ensures)
+      tab_more row a.numbers.now l.loop.numbers l.loop.i _ l.loop.invariant.2 (rw c.line.ensures)
           (omega (arith, l.before.before.before.requires)),
     )
 
@@ -47,7 +47,7 @@ returns : tie.Need-returns invariant-loop decreases-loop
 returns c =
     let l = c.before in
     let a = l.before.before.before.args in
-    l.loop.invariant.2 ∙ tab-done (number_in (read_of a.bytes.now)) a.numbers.now l.loop.i 30 (omega arith)
+    l.loop.invariant.2 ∙ tab_done (number_in (read_of a.bytes.now)) a.numbers.now l.loop.i 30 (omega arith)
     (omega (arith, l.before.before.before.requires))
 
 pub fill_spec : {M : Type 1} → statement M

@@ -2,8 +2,8 @@ use Rattle.rules.proofs.Tests.{tests}
 use Rattle.model.proofs.header_fault.Statement.{statement}
 use Rattle.model.proofs.header_fault.Tie as tie
 
-pub header-fault-spec : {M : Type 1} → statement M
-header-fault-spec =
+pub header_fault_spec : {M : Type 1} → statement M
+header_fault_spec =
     tie.close
     (tie.spec
     (λ c. search tests)  -- returns

@@ -2,8 +2,8 @@
 use native.Mathlib.Omega.{arith}
 use borrow.Author.Rules.{rules}
 use Rattle.rules.proofs.Tests.{tests}
-use Rattle.model.specs.Array.{liesWithin}
-use Rattle.model.proofs.Places.{too_long, decides}
+use Rattle.model.specs.Array.{lies_within}
+use Rattle.model.proofs.Places.{too_long_lem, decides}
 use Rattle.model.proofs.lies_within.Statement.{statement}
 use Rattle.model.proofs.lies_within.Tie as tie
 
@@ -11,7 +11,7 @@ returns-3 : tie.Need-returns-3
 returns-3 c =
     let call = c.before in
     let a = call.before.before.before.before.before.args in
-    too_long a.bytes a.kind a.h _ call.size.ensures (omega arith) (omega arith) (omega arith)
+    too_long_lem a.bytes a.kind a.h _ call.size.ensures (omega arith) (omega arith) (omega arith)
 
 returns-4 : tie.Need-returns-4
 returns-4 c =
@@ -19,9 +19,9 @@ returns-4 c =
     let a = call.before.before.before.before.before.args in
     decides a.bytes a.kind a.h _ call.size.ensures (omega arith) (omega arith) (omega arith)
 
-pub lies-within-spec : {M : Type 1} → statement M
-unfolding liesWithin
-lies-within-spec =
+pub lies_within_spec : {M : Type 1} → statement M
+unfolding lies_within
+lies_within_spec =
     tie.close
     (tie.spec
     (λ c. search tests)  -- returns

@@ -3,8 +3,8 @@ use Rattle.rules.proofs.Tests.{tests}
 use Rattle.model.proofs.match_fault.Statement.{statement}
 use Rattle.model.proofs.match_fault.Tie as tie
 
-pub match-fault-spec : {M : Type 1} → statement M
-match-fault-spec =
+pub match_fault_spec : {M : Type 1} → statement M
+match_fault_spec =
     tie.close
     (tie.spec
     (λ c. search tests)  -- returns

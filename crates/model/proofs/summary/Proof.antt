@@ -4,31 +4,31 @@ use native.Mathlib.Omega.{arith}
 use borrow.Author.Rules.{rules}
 use borrow.Author.Tests.{eq-eqb}
 use Rattle.rules.proofs.Tests.{tests}
-use Rattle.model.specs.Summary.{summaryOf}
-use Rattle.model.proofs.Bounds.{refused-in}
+use Rattle.model.specs.Summary.{summary_of}
+use Rattle.model.proofs.Bounds.{refused_in}
 use Rattle.model.proofs.summary.Statement.{statement}
 use Rattle.model.proofs.summary.Tie as tie
 
 returns : tie.Need-returns
-unfolding summaryOf
+unfolding summary_of
 returns c = search tests
 
 mul-result : tie.Need-overflow-mul-result
 mul-result c =
     let r = c.before.before.before in
-    let small = refused-in r.before.before.before.before.args.bytes.now
+    let small = refused_in r.before.before.before.before.args.bytes.now
     (sym c.before.number.given.1 ∙ r.read.ensures) in
     omega (arith, small.2)
 
 add-result : tie.Need-overflow-add-result
 add-result c =
     let r = c.before.before.before in
-    let small = refused-in r.before.before.before.before.args.bytes.now
+    let small = refused_in r.before.before.before.before.args.bytes.now
     (sym c.before.number.given.1 ∙ r.read.ensures) in
     omega (arith, small.1, small.2)
 
 returns-2 : tie.Need-returns-2
-unfolding summaryOf
+unfolding summary_of
 returns-2 c =
     let e = c.before.before.before.before in
     let r = e.before.before in
@@ -39,13 +39,13 @@ returns-2 c =
     )
 
 returns-3 : tie.Need-returns-3
-unfolding summaryOf
+unfolding summary_of
 returns-3 c =
     let r = c.before.before.before in
     rw (eq-eqb _ 30 r.before.if1.false, ← sym c.before.number.given.1 ∙ r.read.ensures)
 
-pub summary-spec : {M : Type 1} → statement M
-summary-spec =
+pub summary_spec : {M : Type 1} → statement M
+summary_spec =
     tie.close
     (tie.spec
     returns

@@ -3,8 +3,8 @@ use Rattle.rules.proofs.Tests.{tests}
 use Rattle.model.proofs.sums_fault.Statement.{statement}
 use Rattle.model.proofs.sums_fault.Tie as tie
 
-pub sums-fault-spec : {M : Type 1} → statement M
-sums-fault-spec =
+pub sums_fault_spec : {M : Type 1} → statement M
+sums_fault_spec =
     tie.close
     (tie.spec
     (λ c. search rules)  -- element-copy-out-if1

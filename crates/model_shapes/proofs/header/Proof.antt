@@ -5,8 +5,8 @@ use lib.ListN.{length-set}
 use Rattle.model_shapes.proofs.header.Statement.{statement}
 use Rattle.model_shapes.proofs.header.Tie as tie
 
-pub header-spec : {M : Type 1} → statement M
-header-spec =
+pub header_spec : {M : Type 1} → statement M
+header_spec =
     tie.close
     (tie.spec
     (λ c. search rules)  -- returns

@@ -4,23 +4,23 @@ use native.Mathlib.Omega.{arith}
 use borrow.Author.Rules.{rules}
 use Rattle.rules.specs.F32.{part}
 use Rattle.rules.proofs.Refusals.{left as fitted}
-use Rattle.network.proofs.Parts.{cut-length}
-use Rattle.network.proofs.Callers.{computed-wrong}
+use Rattle.network.proofs.Parts.{cut_length}
+use Rattle.network.proofs.Callers.{computed_wrong}
 use Rattle.network.proofs.States.{joined_in, parted}
 use Rattle.network.proofs.compute.Statement.{statement}
 use Rattle.network.proofs.compute.Tie as tie
 
 returns : tie.Need-returns
 returns c =
-    computed-wrong _ _ _ _ _ _ _ (λ fits. c.if1.true fits.first)
+    computed_wrong _ _ _ _ _ _ _ (λ fits. c.if1.true fits.first)
 
 returns-2 : tie.Need-returns-2
 returns-2 c =
-    computed-wrong _ _ _ _ _ _ _ (λ fits. c.if2.true fits.second)
+    computed_wrong _ _ _ _ _ _ _ (λ fits. c.if2.true fits.second)
 
 returns-3 : tie.Need-returns-3
 returns-3 c =
-    computed-wrong _ _ _ _ _ _ _ (λ fits. c.if3.true fits.third)
+    computed_wrong _ _ _ _ _ _ _ (λ fits. c.if3.true fits.third)
 
 returns-4 : tie.Need-returns-4
 returns-4 c =
@@ -32,7 +32,7 @@ returns-4 c =
     let s = o.compute-on.last.1.1.0 in
     let whole : length s ≡ 384 = o.compute-on.kept.1.1.0 ∙ j.join.kept.0 in
     let part_of : (k : ℕ) → k + 128 ≤ 384 → 128 ≡ length (part k (k + 128) s) =
-    λ k h. sym (cut-length s k (k + 128) 128 refl (omega (arith, whole))) in
+    λ k h. sym (cut_length s k (k + 128) 128 refl (omega (arith, whole))) in
     let lv = e.before.before.if1.left in
     let ln = e.before.if2.left in
     let ld = e.if3.left in
@@ -46,8 +46,8 @@ returns-4 c =
     (fitted c.before.before.copy3.ensures (ld ∙ part_of 256 (omega arith)))
     (rw (was.0, was.1, was.2) at o.compute-on.ensures)
 
-pub compute-spec : {M : Type 1} → statement M
-compute-spec =
+pub compute_spec : {M : Type 1} → statement M
+compute_spec =
     tie.close
     (tie.spec
     returns

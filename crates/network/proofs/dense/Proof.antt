@@ -9,8 +9,8 @@ use Rattle.network.proofs.Sizes.{product}
 use Rattle.network.proofs.dense.Statement.{statement}
 use Rattle.network.proofs.dense.Tie as tie
 
-pub dense-spec : {M : Type 1} → statement M
-dense-spec =
+pub dense_spec : {M : Type 1} → statement M
+dense_spec =
     tie.close
     (tie.spec
     (λ c. refused (λ fits. omega (arith, fits.neurons.some)) refl)  -- returns

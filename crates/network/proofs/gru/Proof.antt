@@ -9,8 +9,8 @@ use Rattle.network.proofs.Sizes.{product}
 use Rattle.network.proofs.gru.Statement.{statement}
 use Rattle.network.proofs.gru.Tie as tie
 
-pub gru-spec : {M : Type 1} → statement M
-gru-spec =
+pub gru_spec : {M : Type 1} → statement M
+gru_spec =
     tie.close
     (tie.spec
     (λ c. refused (λ fits. omega (arith, fits.neurons.some)) refl)  -- returns

@@ -5,8 +5,8 @@ use Rattle.std.proofs.Common.{arith}
 use lib.Ieee.{fits, div, of_bits}
 use lib.Ieee.Compare.{differs_from_itself}
 use Rattle.numbers.specs.Narrowed.{narrowed}
-use Rattle.numbers.proofs.NoNan.{real_of, magnitude-le, real-pattern}
-use Rattle.numbers.proofs.Conversion.{bits-lt, narrowed-bits}
+use Rattle.numbers.proofs.NoNan.{real_of, magnitude_le, real_pattern}
+use Rattle.numbers.proofs.Conversion.{bits_lt, narrowed_bits}
 use Rattle.numbers.proofs.by_parts.Statement.{statement}
 use Rattle.numbers.proofs.by_parts.Tie as tie
 
@@ -22,30 +22,30 @@ float-to-bits-bits : tie.Need-float-to-bits-bits
 float-to-bits-bits c = real_of c.before.args.x c.if1.false
 
 mul-result : tie.Need-overflow-mul-result
-mul-result c = omega (arith, bits-lt c.before.args.x (held c.before))
+mul-result c = omega (arith, bits_lt c.before.args.x (held c.before))
 
 narrow-magnitude-requires : tie.Need-narrow-magnitude-requires
 narrow-magnitude-requires c κs =
-    magnitude-le binary64 c.before.args.x (held c.before) (real_of c.before.args.x c.if1.false)
+    magnitude_le binary64 c.before.args.x (held c.before) (real_of c.before.args.x c.if1.false)
 
 add-result : tie.Need-overflow-add-result
 add-result c =
-    omega (arith, bits-lt c.before.before.args.x (held c.before.before), c.narrow-magnitude.ensures.small)
+    omega (arith, bits_lt c.before.before.args.x (held c.before.before), c.narrow-magnitude.ensures.small)
 
 cast-result : tie.Need-overflow-cast-result
 cast-result c =
-    omega (arith, bits-lt c.before.before.args.x (held c.before.before), c.narrow-magnitude.ensures.small)
+    omega (arith, bits_lt c.before.before.args.x (held c.before.before), c.narrow-magnitude.ensures.small)
 
 float-from-bits-result : tie.Need-float-from-bits-result
-float-from-bits-result c = real-pattern binary32 _ (omega (arith, c.narrow-magnitude.ensures.small))
+float-from-bits-result c = real_pattern binary32 _ (omega (arith, c.narrow-magnitude.ensures.small))
 
 returns-2 : tie.Need-returns-2
 returns-2 c =
     let start = c.before.before in
-    narrowed-bits start.args.x (held start) c.narrow-magnitude.result c.narrow-magnitude.ensures
+    narrowed_bits start.args.x (held start) c.narrow-magnitude.result c.narrow-magnitude.ensures
 
-pub by-parts-spec : {M : Type 1} → statement M
-by-parts-spec =
+pub by_parts_spec : {M : Type 1} → statement M
+by_parts_spec =
     tie.close
     (tie.spec
     returns float-to-bits-bits mul-result narrow-magnitude-requires add-result cast-result float-from-bits-result

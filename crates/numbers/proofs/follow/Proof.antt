@@ -1,15 +1,15 @@
 -- `numbers::follow` meets its contract. Assumes nothing.
 use Rattle.std.proofs.Common.{rules}
-use Rattle.numbers.proofs.Floors.{inside-within}
+use Rattle.numbers.proofs.Floors.{inside_within}
 use Rattle.numbers.proofs.follow.Statement.{statement}
 use Rattle.numbers.proofs.follow.Tie as tie
 
-pub follow-spec : {M : Type 1} → statement M
-follow-spec =
+pub follow_spec : {M : Type 1} → statement M
+follow_spec =
     tie.close
     (tie.spec
     (λ c κs. search rules)  -- inside-requires
-    (λ c κs. rw c.inside.ensures (inside-within _))  -- place-of-requires
+    (λ c κs. rw c.inside.ensures (inside_within _))  -- place-of-requires
     (λ c κs. search rules)  -- sign-of-requires
     (λ c κs. search rules)  -- ended-requires
     (λ c.

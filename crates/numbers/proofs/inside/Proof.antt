@@ -3,8 +3,8 @@ use Rattle.std.proofs.Common.{rules}
 use Rattle.numbers.proofs.inside.Statement.{statement}
 use Rattle.numbers.proofs.inside.Tie as tie
 
-pub inside-spec : {M : Type 1} → statement M
-inside-spec =
+pub inside_spec : {M : Type 1} → statement M
+inside_spec =
     tie.close
     (tie.spec
     (λ c κs. search rules)  -- size-of-requires

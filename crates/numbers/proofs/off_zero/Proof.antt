@@ -2,8 +2,8 @@
 use Rattle.numbers.proofs.off_zero.Statement.{statement}
 use Rattle.numbers.proofs.off_zero.Tie as tie
 
-pub off-zero-spec : {M : Type 1} → statement M
-off-zero-spec =
+pub off_zero_spec : {M : Type 1} → statement M
+off_zero_spec =
     tie.close
     (tie.spec
     (λ c. rw c.if1.true)  -- returns

@@ -3,7 +3,7 @@ use Rattle.rules.proofs.Common.{◌-◌, ◌≡◌, sym, ap, ◌∙◌, length, 
 use native.Mathlib.Omega.{arith}
 use lib.Seq.{length-take-le}
 use borrow.Author.Rules.{rules}
-use Rattle.pitch.specs.Autocorr.{addTails, celtAutocorr}
+use Rattle.pitch.specs.Autocorr.{add_tails, celt_autocorr}
 use Rattle.pitch.proofs.celt_autocorr_core.Statement.{statement}
 use Rattle.pitch.proofs.celt_autocorr_core.Tie as tie
 
@@ -15,15 +15,15 @@ requires c κs =
     record { enough = λ h. omega arith; rounded = λ h. omega arith }
 
 returns : tie.Need-returns
-unfolding celtAutocorr
+unfolding celt_autocorr
 returns c =
     let first = c.before.before.before.before.before.before in
     let start = first.before.before.before.before.before in
     let five = start.requires.lags in
-    c.before.before.add-tails.ensures ∙ ap (addTails _ _) first.pitch-xcorr-core.ensures ∙ simp five
+    c.before.before.add-tails.ensures ∙ ap (add_tails _ _) first.pitch-xcorr-core.ensures ∙ simp five
 
-pub celt-autocorr-core-spec : {M : Type 1} → statement M
-celt-autocorr-core-spec =
+pub celt_autocorr_core_spec : {M : Type 1} → statement M
+celt_autocorr_core_spec =
     tie.close
     (tie.spec
     (λ c. search rules)  -- sub-fast

@@ -4,8 +4,8 @@ use native.Mathlib.Omega.{arith}
 use Rattle.rules.specs.F32.{at, ◌⊗◌}
 use Rattle.rules.specs.Tab.{tab}
 use Rattle.rules.proofs.Loops.{turns, begin, more}
-use Rattle.rules.proofs.Lists.{tab-none, tab-more, tab-still, tab-done}
-use Rattle.pitch.specs.Downsample.{fade, fadeStep, fadedLpc}
+use Rattle.rules.proofs.Lists.{tab_none, tab_more, tab_still, tab_done}
+use Rattle.pitch.specs.Downsample.{fade, fade_step, faded_lpc}
 use Rattle.pitch.proofs.fade_coefficients.Statement.{statement}
 use Rattle.pitch.proofs.fade_coefficients.Tie as tie
 
@@ -22,25 +22,25 @@ unfolding fade
 again c =
     let l = c.before.before.loop in
     let old = c.before.before.before.args.lpc.now in
-    let next = more fadeStep _ l.i l.invariant.3 refl in
-    let ahead : at l.lpc l.i ≡ at old l.i = tab-still _ _ _ l.i l.i nan l.invariant.4 (omega arith) in (
+    let next = more fade_step _ l.i l.invariant.3 refl in
+    let ahead : at l.lpc l.i ≡ at old l.i = tab_still _ _ _ l.i l.i nan l.invariant.4 (omega arith) in (
       omega arith,
       l.invariant.1,
       simp length-set l.invariant.2,
       next,
-      tab-more _ _ _ _ _ l.invariant.4 (rw (ahead, ← next)) (omega arith),
+      tab_more _ _ _ _ _ l.invariant.4 (rw (ahead, ← next)) (omega arith),
     )
 
 returns : tie.Need-returns invariant-loop decreases-loop
-unfolding fadedLpc
-returns c = let l = c.before.loop in l.invariant.4 ∙ tab-done _ _ _ 4 (omega arith) (omega arith)
+unfolding faded_lpc
+returns c = let l = c.before.loop in l.invariant.4 ∙ tab_done _ _ _ 4 (omega arith) (omega arith)
 
 holds : tie.Need-loop-init invariant-loop decreases-loop
 unfolding fade
-holds c = (omega arith, omega arith, omega arith, begin fadeStep _, tab-none _ _)
+holds c = (omega arith, omega arith, omega arith, begin fade_step _, tab_none _ _)
 
-pub fade-coefficients-spec : {M : Type 1} → statement M
-fade-coefficients-spec =
+pub fade_coefficients_spec : {M : Type 1} → statement M
+fade_coefficients_spec =
     tie.close
     (tie.spec
     invariant-loop

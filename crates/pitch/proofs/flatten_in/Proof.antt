@@ -1,17 +1,17 @@
 -- `pitch::flatten_in` meets its contract: each call's result is the next one's argument. Assumes nothing.
 use Rattle.rules.proofs.Common.{ℕ, List, ◌≡◌, Float}
 use borrow.Author.Rules.{rules}
-use Rattle.pitch.specs.Autocorr.{celtAutocorr}
-use Rattle.pitch.specs.Lpc.{lpcOf}
-use Rattle.pitch.specs.Downsample.{floored, fadedLpc, withZero, coefficients}
+use Rattle.pitch.specs.Autocorr.{celt_autocorr}
+use Rattle.pitch.specs.Lpc.{lpc_of}
+use Rattle.pitch.specs.Downsample.{floored, faded_lpc, with_zero, coefficients}
 use Rattle.pitch.proofs.flatten_in.Statement.{statement}
 use Rattle.pitch.proofs.flatten_in.Tie as tie
 
-in-turn : (low : List Float) (n : ℕ) {ac ac' c c' : List Float} → n ≡ 4 → ac ≡ celtAutocorr low → ac' ≡ floored ac
-    → c ≡ lpcOf n ac' → c' ≡ fadedLpc c
-    → withZero c' ≡ coefficients low
+in_turn : (low : List Float) (n : ℕ) {ac ac' c c' : List Float} → n ≡ 4 → ac ≡ celt_autocorr low → ac' ≡ floored ac
+    → c ≡ lpc_of n ac' → c' ≡ faded_lpc c
+    → with_zero c' ≡ coefficients low
 unfolding coefficients
-in-turn low n four a f l d = rw (d, l, f, a, four)
+in_turn low n four a f l d = rw (d, l, f, a, four)
 
 returns : tie.Need-returns
 returns c =
@@ -20,11 +20,11 @@ returns c =
     let floor = lpc.before.before.before.before.before in
     let autocorr = floor.before.before.before.before in
     let start = autocorr.before.before.before.before.before in
-    in-turn _ _ start.requires.2 autocorr.celt-autocorr-core.ensures floor.floor.ensures lpc.lpc-core.ensures
+    in_turn _ _ start.requires.2 autocorr.celt-autocorr-core.ensures floor.floor.ensures lpc.lpc-core.ensures
     fade.fade-coefficients.ensures
 
-pub flatten-in-spec : {M : Type 1} → statement M
-flatten-in-spec =
+pub flatten_in_spec : {M : Type 1} → statement M
+flatten_in_spec =
     tie.close
     (tie.spec
     (λ c κs. search rules)  -- celt-autocorr-core-requires

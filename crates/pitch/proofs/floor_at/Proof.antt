@@ -5,8 +5,8 @@ use Rattle.rules.proofs.Numbers.{casts}
 use Rattle.pitch.proofs.floor_at.Statement.{statement}
 use Rattle.pitch.proofs.floor_at.Tie as tie
 
-pub floor-at-spec : {M : Type 1} → statement M
-floor-at-spec =
+pub floor_at_spec : {M : Type 1} → statement M
+floor_at_spec =
     tie.close
     (tie.spec
     (λ c. rw (eq-eqb _ _ c.if1.true))  -- returns

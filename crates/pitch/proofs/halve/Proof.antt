@@ -3,7 +3,7 @@ use Rattle.rules.proofs.Common.{◌-◌, ◌≤◌, ◌++◌, ◌≡◌, refl, �
 use native.Mathlib.Omega.{arith}
 use Rattle.rules.specs.Tab.{tab}
 use Rattle.rules.proofs.Loops.{turns}
-use Rattle.rules.proofs.Lists.{tab-none, tab-more, tab-done}
+use Rattle.rules.proofs.Lists.{tab_none, tab_more, tab_done}
 use Rattle.pitch.specs.Downsample.{halved_at, halved}
 use Rattle.pitch.proofs.halve.Statement.{statement}
 use Rattle.pitch.proofs.halve.Tie as tie
@@ -16,15 +16,15 @@ decreases-loop x low₀ i₀ low i = 864 - i
 
 returns : tie.Need-returns invariant-loop decreases-loop
 unfolding halved
-returns c = let l = c.before.loop in l.invariant.2 ∙ tab-done _ _ _ 864 (omega arith) (omega arith)
+returns c = let l = c.before.loop in l.invariant.2 ∙ tab_done _ _ _ 864 (omega arith) (omega arith)
 
-pub halve-spec : {M : Type 1} → statement M
-halve-spec =
+pub halve_spec : {M : Type 1} → statement M
+halve_spec =
     tie.close
     (tie.spec
     invariant-loop
     decreases-loop
-    (λ c. (omega arith, refl, tab-none _ _))  -- loop-holds
+    (λ c. (omega arith, refl, tab_none _ _))  -- loop-holds
     (λ c κs. search turns)  -- halve-at-requires
     (λ c. search turns)  -- mul-x-lp
     (λ c. search turns)  -- slice-write-x-lp
@@ -34,7 +34,7 @@ halve-spec =
     let l = c.before.before.loop in (
       omega arith,
       simp length-set l.invariant.1,
-      tab-more _ _ _ _ _ l.invariant.2 c.halve-at.ensures (omega arith),
+      tab_more _ _ _ _ _ l.invariant.2 c.halve-at.ensures (omega arith),
     ))  -- loop-again
     (λ c. search turns)  -- same-length
     returns)

@@ -4,8 +4,8 @@ use borrow.Author.Tests.{eq-eqb, ne_eqb}
 use Rattle.pitch.proofs.halve_at.Statement.{statement}
 use Rattle.pitch.proofs.halve_at.Tie as tie
 
-pub halve-at-spec : {M : Type 1} → statement M
-halve-at-spec =
+pub halve_at_spec : {M : Type 1} → statement M
+halve_at_spec =
     tie.close
     (tie.spec
     (λ c. search rules)  -- shared-slice-read-result

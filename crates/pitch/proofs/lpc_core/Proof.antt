@@ -1,12 +1,12 @@
 -- `pitch::lpc_core` meets its contract. Assumes nothing.
 use borrow.Author.Rules.{rules}
-use Rattle.pitch.specs.Lpc.{lpcOf}
+use Rattle.pitch.specs.Lpc.{lpc_of}
 use Rattle.pitch.proofs.lpc_core.Statement.{statement}
 use Rattle.pitch.proofs.lpc_core.Tie as tie
 
-pub lpc-core-spec : {M : Type 1} → statement M
-unfolding lpcOf
-lpc-core-spec =
+pub lpc_core_spec : {M : Type 1} → statement M
+unfolding lpc_of
+lpc_core_spec =
     tie.close
     (tie.spec
     (λ c κs. search rules)  -- clear-requires

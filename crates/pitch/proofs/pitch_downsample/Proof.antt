@@ -6,8 +6,8 @@ use Rattle.rules.proofs.Refusals.{leaves}
 use Rattle.pitch.proofs.pitch_downsample.Statement.{statement}
 use Rattle.pitch.proofs.pitch_downsample.Tie as tie
 
-pub pitch-downsample-spec : {M : Type 1} → statement M
-pitch-downsample-spec =
+pub pitch_downsample_spec : {M : Type 1} → statement M
+pitch_downsample_spec =
     tie.close
     (tie.spec
     (λ c. refused (λ fits. c.if1.true fits.whole) refl)  -- returns

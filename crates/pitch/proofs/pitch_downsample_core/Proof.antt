@@ -6,13 +6,13 @@ use Rattle.pitch.specs.Downsample.{halved, coefficients, downsampled}
 use Rattle.pitch.proofs.pitch_downsample_core.Statement.{statement}
 use Rattle.pitch.proofs.pitch_downsample_core.Tie as tie
 
-in-turn : (x : List Float) {low num out : List Float} → low ≡ halved x → num ≡ coefficients low → out ≡ fir5 low num
+in_turn : (x : List Float) {low num out : List Float} → low ≡ halved x → num ≡ coefficients low → out ≡ fir5 low num
     → out ≡ downsampled x
 unfolding downsampled
-in-turn x h n f = rw (f, n, h)
+in_turn x h n f = rw (f, n, h)
 
-pub pitch-downsample-core-spec : {M : Type 1} → statement M
-pitch-downsample-core-spec =
+pub pitch_downsample_core_spec : {M : Type 1} → statement M
+pitch_downsample_core_spec =
     tie.close
     (tie.spec
     (λ c κs. search rules)  -- halve-requires
@@ -22,5 +22,5 @@ pitch-downsample-core-spec =
     (λ c. search rules)  -- same-length
     (λ c.
     let fir = c.before.before in let flatten = fir.before.before.before in
-    in-turn _ flatten.before.before.before.before.halve.ensures flatten.flatten.ensures
+    in_turn _ flatten.before.before.before.before.halve.ensures flatten.flatten.ensures
     fir.fir5-core.ensures))  -- returns

@@ -5,21 +5,21 @@ use borrow.Author.Rules.{rules}
 use Rattle.rules.specs.Tab.{tab}
 use Rattle.rules.specs.Leaf.{done, refused}
 use Rattle.rules.proofs.Refusals.{leaves}
-use Rattle.pitch.specs.Xcorr.{pitchXcorr}
+use Rattle.pitch.specs.Xcorr.{pitch_xcorr}
 use Rattle.pitch.proofs.pitch_xcorr.Statement.{statement}
 use Rattle.pitch.proofs.pitch_xcorr.Tie as tie
 
 -- without a lag there is nothing to do
-none : (xs ys xcorr : List Float) → length xcorr ≡ 0 → xcorr ≡ pitchXcorr xs ys (length xcorr)
-unfolding pitchXcorr tab
+none : (xs ys xcorr : List Float) → length xcorr ≡ 0 → xcorr ≡ pitch_xcorr xs ys (length xcorr)
+unfolding pitch_xcorr tab
 none xs ys [] e = refl
 none xs ys (c ∷ cs) e = absurd (omega arith)
 
 core-requires : tie.Need-pitch-xcorr-core-requires
 core-requires c κs = record { enough = λ h. omega arith; rounded = λ h. omega arith }
 
-pub pitch-xcorr-spec : {M : Type 1} → statement M
-pitch-xcorr-spec =
+pub pitch_xcorr_spec : {M : Type 1} → statement M
+pitch_xcorr_spec =
     tie.close
     (tie.spec
     (λ c. done (record { enough = λ h. omega arith; rounded = λ h. omega arith })

@@ -3,8 +3,8 @@ use borrow.Author.Rules.{rules}
 use Rattle.pitch.proofs.pitch_xcorr_core.Statement.{statement}
 use Rattle.pitch.proofs.pitch_xcorr_core.Tie as tie
 
-pub pitch-xcorr-core-spec : {M : Type 1} → statement M
-pitch-xcorr-core-spec =
+pub pitch_xcorr_core_spec : {M : Type 1} → statement M
+pitch_xcorr_core_spec =
     tie.close
     (tie.spec
     (λ c κs. search rules)  -- xcorr-fours-requires

@@ -3,8 +3,8 @@ use borrow.Author.Rules.{rules}
 use Rattle.pitch.proofs.xcorr_fours.Statement.{statement}
 use Rattle.pitch.proofs.xcorr_fours.Tie as tie
 
-pub xcorr-fours-spec : {M : Type 1} → statement M
-xcorr-fours-spec =
+pub xcorr_fours_spec : {M : Type 1} → statement M
+xcorr_fours_spec =
     tie.close
     (tie.spec
     (λ c κs. search rules)  -- xcorr-sixteens-requires

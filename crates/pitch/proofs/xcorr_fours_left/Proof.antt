@@ -2,15 +2,15 @@
 use Rattle.rules.proofs.Common.{◌+◌, ◌-◌, ◌*◌, ◌/◌, ◌≤◌, ◌≡◌, refl, length}
 use native.Mathlib.Omega.{arith}
 use Rattle.rules.proofs.Loops.{turns}
-use Rattle.rules.proofs.Lists.{Filling, tab-front, front-tab}
-use Rattle.pitch.specs.Xcorr.{lagOf, wholeFours}
-use Rattle.pitch.specs.Private.{wholeSixteens}
-use Rattle.pitch.proofs.Sums.{lags-stored}
+use Rattle.rules.proofs.Lists.{Filling, tab_front, front_tab}
+use Rattle.pitch.specs.Xcorr.{lag_of, whole_fours}
+use Rattle.pitch.specs.Private.{whole_sixteens}
+use Rattle.pitch.proofs.Sums.{lags_stored}
 use Rattle.pitch.proofs.xcorr_fours_left.Statement.{statement}
 use Rattle.pitch.proofs.xcorr_fours_left.Tie as tie
 
 abbrev invariant-loop : tie.invariant-loop
-invariant-loop xs ys xcorr₀ n k₀ k-end xcorr k = (k ≤ k-end) × (k-end ≡ n / 4) × Filling (lagOf xs ys n) xcorr₀ (4 * k) xcorr
+invariant-loop xs ys xcorr₀ n k₀ k-end xcorr k = (k ≤ k-end) × (k-end ≡ n / 4) × Filling (lag_of xs ys n) xcorr₀ (4 * k) xcorr
 
 abbrev decreases-loop : tie.decreases-loop
 decreases-loop xs ys xcorr₀ n k₀ k-end xcorr k = k-end - k
@@ -18,8 +18,8 @@ decreases-loop xs ys xcorr₀ n k₀ k-end xcorr k = k-end - k
 loop-holds : tie.Need-loop-init invariant-loop decreases-loop
 loop-holds c =
     let n = length c.before.before.before.args.xcorr.now in
-    let start : 4 * (n / 16 * 4) ≡ wholeSixteens n = omega arith in
-    (omega arith, refl, record { same = refl; front = rw start (tab-front _ _ _ c.before.before.before.requires.1) })
+    let start : 4 * (n / 16 * 4) ≡ whole_sixteens n = omega arith in
+    (omega arith, refl, record { same = refl; front = rw start (tab_front _ _ _ c.before.before.before.requires.1) })
 
 loop-again : tie.Need-loop-preserved invariant-loop decreases-loop
 loop-again c =
@@ -27,7 +27,7 @@ loop-again c =
     let next : 4 * (l.k + 1) ≡ 4 * l.k + 4 = omega arith in (
       omega arith,
       refl,
-      rw next (lags-stored _ _ _ _ refl (4 * l.k) l.invariant.2 (omega arith) c.before.before.before.corr4.ensures
+      rw next (lags_stored _ _ _ _ refl (4 * l.k) l.invariant.2 (omega arith) c.before.before.before.corr4.ensures
           c.before.before.put_four.ensures),
     )
 
@@ -35,11 +35,11 @@ returns : tie.Need-returns invariant-loop decreases-loop
 returns c =
     let l = c.before.loop in
     let a = c.before.before.before.before.before.args in
-    let end : 4 * l.k ≡ wholeFours (length a.xcorr.now) = omega arith in
-    front-tab _ a.xcorr.now _ _ (rw end at l.invariant.2.front)
+    let end : 4 * l.k ≡ whole_fours (length a.xcorr.now) = omega arith in
+    front_tab _ a.xcorr.now _ _ (rw end at l.invariant.2.front)
 
-pub xcorr-fours-left-spec : {M : Type 1} → statement M
-xcorr-fours-left-spec =
+pub xcorr_fours_left_spec : {M : Type 1} → statement M
+xcorr_fours_left_spec =
     tie.close
     (tie.spec
     invariant-loop

@@ -3,15 +3,15 @@ use Rattle.rules.proofs.Common.{◌-◌, ◌≤◌, ◌++◌, ◌≡◌, refl, �
 use native.Mathlib.Omega.{arith}
 use Rattle.rules.specs.Tab.{tab}
 use Rattle.rules.proofs.Loops.{turns}
-use Rattle.rules.proofs.Lists.{tab-front, tab-more, tab-done}
-use Rattle.pitch.specs.Xcorr.{lagOf, pitchXcorr}
-use Rattle.pitch.proofs.Starts.{behind-fours}
+use Rattle.rules.proofs.Lists.{tab_front, tab_more, tab_done}
+use Rattle.pitch.specs.Xcorr.{lag_of, pitch_xcorr}
+use Rattle.pitch.proofs.Starts.{behind_fours}
 use Rattle.pitch.proofs.xcorr_rest.Statement.{statement}
 use Rattle.pitch.proofs.xcorr_rest.Tie as tie
 
 abbrev invariant-loop : tie.invariant-loop
 invariant-loop xs ys xcorr₀ n i₀ xcorr i =
-    (i₀ ≤ i) × (i ≤ n) × (length xcorr ≡ length xcorr₀) × (xcorr ≡ tab i (lagOf xs ys n) ++ drop i xcorr₀)
+    (i₀ ≤ i) × (i ≤ n) × (length xcorr ≡ length xcorr₀) × (xcorr ≡ tab i (lag_of xs ys n) ++ drop i xcorr₀)
 
 abbrev decreases-loop : tie.decreases-loop
 decreases-loop xs ys xcorr₀ n i₀ xcorr i = n - i
@@ -22,24 +22,24 @@ loop-again c =
       omega arith,
       omega arith,
       simp length-set l.invariant.2,
-      tab-more _ _ _ _ _ l.invariant.3 (behind-fours _ _ _ _ (omega arith) c.corr1.ensures) (omega arith),
+      tab_more _ _ _ _ _ l.invariant.3 (behind_fours _ _ _ _ (omega arith) c.corr1.ensures) (omega arith),
     )
 
 returns : tie.Need-returns invariant-loop decreases-loop
-unfolding pitchXcorr
+unfolding pitch_xcorr
 returns c =
     let l = c.before.loop in
-    l.invariant.3 ∙ tab-done _ _ _ (length c.before.before.before.before.before.args.xcorr.now) (omega arith)
+    l.invariant.3 ∙ tab_done _ _ _ (length c.before.before.before.before.before.args.xcorr.now) (omega arith)
     (omega arith)
 
-pub xcorr-rest-spec : {M : Type 1} → statement M
-xcorr-rest-spec =
+pub xcorr_rest_spec : {M : Type 1} → statement M
+xcorr_rest_spec =
     tie.close
     (tie.spec
     invariant-loop
     decreases-loop
     (λ c. search turns)  -- sub-i
-    (λ c. (omega arith, omega arith, refl, tab-front _ _ _ c.before.before.before.requires.1))  -- loop-holds
+    (λ c. (omega arith, omega arith, refl, tab_front _ _ _ c.before.before.before.requires.1))  -- loop-holds
     (λ c κs. omega (arith, c.before.before.before.before.before.requires.0.enough (omega arith)))  -- corr1-requires
     (λ c. search turns)  -- mul-xcorr
     (λ c. search turns)  -- slice-write-xcorr

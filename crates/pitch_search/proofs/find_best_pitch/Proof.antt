@@ -9,8 +9,8 @@ use Rattle.pitch_search.specs.declared.Pitches.{Pitches}
 use Rattle.pitch_search.proofs.find_best_pitch.Statement.{statement}
 use Rattle.pitch_search.proofs.find_best_pitch.Tie as tie
 
-pub find-best-pitch-spec : {M : Type 1} → statement M
-find-best-pitch-spec =
+pub find_best_pitch_spec : {M : Type 1} → statement M
+find_best_pitch_spec =
     tie.close
     (tie.spec
     (λ c. refused (λ fits. omega arith) refl)  -- returns
@@ -18,5 +18,5 @@ find-best-pitch-spec =
     (λ c. refused (λ fits. omega arith) refl)  -- returns-2
     (λ c κs. search rules)  -- find-best-pitch-core-requires
     (λ c. done (search rules)
-    (ap (λ (s : Search). Pitches.Best s.bestPitch s.secondBestPitch)
+    (ap (λ (s : Search). Pitches.Best s.best_pitch s.second_best_pitch)
     c.find-best-pitch-core.ensures)))  -- returns-3

@@ -3,8 +3,8 @@ use Rattle.rules.proofs.Tests.{tests}
 use Rattle.recorder.proofs.closing_of.Statement.{statement}
 use Rattle.recorder.proofs.closing_of.Tie as tie
 
-pub closing-of-spec : {M : Type 1} → statement M
-closing-of-spec =
+pub closing_of_spec : {M : Type 1} → statement M
+closing_of_spec =
     tie.close
     (tie.spec
     (λ c. search rules)  -- cast-taken

@@ -14,8 +14,8 @@ returns c =
     let left : c.before.if1.taken ≡ r.taken - r.size / 2 = ⊎_elim (λ h. omega arith) (λ h. omega arith) came in
     rw (left, c.next-first.ensures)
 
-pub following-spec : {M : Type 1} → statement M
-following-spec =
+pub following_spec : {M : Type 1} → statement M
+following_spec =
     tie.close
     (tie.spec
     (λ c. search rules)  -- sub-taken

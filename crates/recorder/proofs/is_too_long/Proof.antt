@@ -7,8 +7,8 @@ use Rattle.recorder.specs.Recorder.{FRAMES}
 use Rattle.recorder.proofs.is_too_long.Statement.{statement}
 use Rattle.recorder.proofs.is_too_long.Tie as tie
 
-pub is-too-long-spec : {M : Type 1} → statement M
-is-too-long-spec =
+pub is_too_long_spec : {M : Type 1} → statement M
+is_too_long_spec =
     tie.close
     (tie.spec
     (λ c. search rules)  -- cast-if1

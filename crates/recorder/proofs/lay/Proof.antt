@@ -1,5 +1,5 @@
 use borrow.Author.Rules.{rules}
-use Rattle.recorder.proofs.Answers.{head-laid, chunk-laid, trailer-laid, size-most}
+use Rattle.recorder.proofs.Answers.{head_laid_lem, chunk_laid_lem, trailer_laid_lem, size_most}
 use Rattle.recorder.proofs.lay.Statement.{statement}
 use Rattle.recorder.proofs.lay.Tie as tie
 
@@ -13,14 +13,14 @@ returns c =
     let p = c.before.before.before.before.before.before.before.before.before.before.before.before.before.before.before.before.before.before.before.requires in
     let r = a.recorder in
     let f = r.front in
-    let few = size-most r.size p.sized in (
-      head-laid f.side f.began f.first _ p.sized few a.head.now number.ensures.0 p.front headed.ensures,
-      chunk-laid f.side f.began f.first _ p.sized few r.crc a.chunk.now number.ensures.0 p.between chunked.ensures,
-      trailer-laid f.side r.count r.sum a.trailer.now number.ensures.0 p.last p.few c.before.before.trailer.ensures,
+    let few = size_most r.size p.sized in (
+      head_laid_lem f.side f.began f.first _ p.sized few a.head.now number.ensures.0 p.front headed.ensures,
+      chunk_laid_lem f.side f.began f.first _ p.sized few r.crc a.chunk.now number.ensures.0 p.between chunked.ensures,
+      trailer_laid_lem f.side r.count r.sum a.trailer.now number.ensures.0 p.last p.few c.before.before.trailer.ensures,
     )
 
-pub lay-spec : {M : Type 1} → statement M
-lay-spec =
+pub lay_spec : {M : Type 1} → statement M
+lay_spec =
     tie.close
     (tie.spec
     (λ c κs. search rules)  -- number-requires

@@ -3,8 +3,8 @@ use native.Mathlib.Omega.{arith}
 use Rattle.recorder.proofs.part_of.Statement.{statement}
 use Rattle.recorder.proofs.part_of.Tie as tie
 
-pub part-of-spec : {M : Type 1} → statement M
-part-of-spec =
+pub part_of_spec : {M : Type 1} → statement M
+part_of_spec =
     tie.close
     (tie.spec
     (λ c κs. search rules)  -- skip-of-requires

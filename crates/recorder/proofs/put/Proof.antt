@@ -1,7 +1,7 @@
 use Rattle.rules.proofs.Common.{[], ◌∷◌, ◌∙◌, length-set}
 use borrow.Author.Rules.{rules}
 use native.Mathlib.Omega.{arith}
-use Rattle.rules.proofs.Places.{all-stored}
+use Rattle.rules.proofs.Places.{all_stored}
 use Rattle.recorder.proofs.put.Statement.{statement}
 use Rattle.recorder.proofs.put.Tie as tie
 
@@ -10,7 +10,7 @@ returns c =
     let r = c.before.before.before.before.before.before.before.before.before.args.recorder in
     let f = r.front in
     let number = c.before.before.before.before.before.before.number in
-    all-stored c.before.before.before.before.before.before.before.before.before.args.numbers.now (number.result ∷ f.began ∷ f.first ∷ r.taken ∷ r.size ∷ r.crc ∷ r.count ∷ r.sum ∷ []) c.before.before.before.before.before.before.before.before.before.requires ∙ rw number.ensures.0
+    all_stored c.before.before.before.before.before.before.before.before.before.args.numbers.now (number.result ∷ f.began ∷ f.first ∷ r.taken ∷ r.size ∷ r.crc ∷ r.count ∷ r.sum ∷ []) c.before.before.before.before.before.before.before.before.before.requires ∙ rw number.ensures.0
 
 pub put_spec : {M : Type 1} → statement M
 put_spec =

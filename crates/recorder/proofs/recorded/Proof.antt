@@ -2,8 +2,8 @@ use borrow.Author.Rules.{rules}
 use Rattle.recorder.proofs.recorded.Statement.{statement}
 use Rattle.recorder.proofs.recorded.Tie as tie
 
-pub recorded-spec : {M : Type 1} → statement M
-recorded-spec =
+pub recorded_spec : {M : Type 1} → statement M
+recorded_spec =
     tie.close
     (tie.spec
     (λ c. search rules)  -- cast-passed

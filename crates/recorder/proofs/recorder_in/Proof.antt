@@ -1,14 +1,14 @@
-use Rattle.recorder.specs.Numbers.{recorderIn}
+use Rattle.recorder.specs.Numbers.{recorder_in}
 use borrow.Author.Rules.{rules}
 use Rattle.recorder.proofs.recorder_in.Statement.{statement}
 use Rattle.recorder.proofs.recorder_in.Tie as tie
 
 returns : tie.Need-returns
-unfolding recorderIn
+unfolding recorder_in
 returns c = cc
 
-pub recorder-in-spec : {M : Type 1} → statement M
-recorder-in-spec =
+pub recorder_in_spec : {M : Type 1} → statement M
+recorder_in_spec =
     tie.close
     (tie.spec
     (λ c. search rules)  -- shared-slice-read-side-at

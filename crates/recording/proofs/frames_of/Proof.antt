@@ -4,8 +4,8 @@ use borrow.Author.Rules.{rules}
 use Rattle.recording.proofs.frames_of.Statement.{statement}
 use Rattle.recording.proofs.frames_of.Tie as tie
 
-pub frames-of-spec : {M : Type 1} → statement M
-frames-of-spec =
+pub frames_of_spec : {M : Type 1} → statement M
+frames_of_spec =
     tie.close
     (tie.spec
     (λ c. search rules)  -- add-filled

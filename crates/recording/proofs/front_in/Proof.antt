@@ -2,8 +2,8 @@ use borrow.Author.Rules.{rules}
 use Rattle.recording.proofs.front_in.Statement.{statement}
 use Rattle.recording.proofs.front_in.Tie as tie
 
-pub front-in-spec : {M : Type 1} → statement M
-front-in-spec =
+pub front_in_spec : {M : Type 1} → statement M
+front_in_spec =
     tie.close
     (tie.spec
     (λ c κs. search rules)  -- side-in-requires

@@ -17,8 +17,8 @@ returns c =
       c.before.before.before.before.before.put.ensures,
     )
 
-pub head-parts-spec : {M : Type 1} → statement M
-head-parts-spec =
+pub head_parts_spec : {M : Type 1} → statement M
+head_parts_spec =
     tie.close
     (tie.spec
     (λ c. simp length-take (omega arith))  -- slice-aggregate-put

@@ -1,11 +1,11 @@
 use mathlib.Core.Path.{sym, ◌∙◌}
 use borrow.Author.Rules.{rules}
-use Rattle.sheet.proofs.Fields.{four-at}
+use Rattle.sheet.proofs.Fields.{four_at_lem}
 use Rattle.recording.proofs.number_in.Statement.{statement}
 use Rattle.recording.proofs.number_in.Tie as tie
 
-pub number-in-spec : {M : Type 1} → statement M
-number-in-spec =
+pub number_in_spec : {M : Type 1} → statement M
+number_in_spec =
     tie.close
     (tie.spec
     (λ c. search rules)  -- array-read-joined
@@ -18,4 +18,4 @@ number-in-spec =
     (λ c κs. search rules)  -- joined-requires
     (λ c.
     let a = c.before.args in
-    (c.joined.ensures.0 ∙ sym (four-at a.t1 a.at), c.joined.ensures.1)))  -- returns
+    (c.joined.ensures.0 ∙ sym (four_at_lem a.t1 a.at), c.joined.ensures.1)))  -- returns

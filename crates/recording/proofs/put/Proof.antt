@@ -2,7 +2,7 @@ use Rattle.rules.proofs.Common.{◌+◌, ◌-◌, ◌≤◌, ◌≡◌, refl, sy
 use native.Mathlib.Omega.{arith}
 use Rattle.rules.proofs.Loops.{turns}
 use Rattle.recording.specs.Private.{over}
-use Rattle.recording.proofs.Written.{over_none, over-more, over-ended}
+use Rattle.recording.proofs.Written.{over_none, over_more, over_ended}
 use Rattle.recording.proofs.put.Statement.{statement}
 use Rattle.recording.proofs.put.Tie as tie
 
@@ -32,6 +32,6 @@ put_spec =
       l.invariant.1,
       l.invariant.2,
       simp length-set l.invariant.3,
-      l.invariant.4 ∙ over-more _ _ _ l.i (omega arith),
+      l.invariant.4 ∙ over_more _ _ _ l.i (omega arith),
     ))  -- loop-again
-    (λ c. let l = c.before.loop in sym (l.invariant.4 ∙ over-ended _ _ _ l.i (omega arith))))  -- returns
+    (λ c. let l = c.before.loop in sym (l.invariant.4 ∙ over_ended _ _ _ l.i (omega arith))))  -- returns

@@ -10,8 +10,8 @@ invariant-loop bytes at lists end₀ i₀ end i = (i ≤ 4) × (at < end) × (en
 abbrev decreases-loop : tie.decreases-loop
 decreases-loop bytes at lists end₀ i₀ end i = 4 - i
 
-pub behind-spec : {M : Type 1} → statement M
-behind-spec =
+pub behind_spec : {M : Type 1} → statement M
+behind_spec =
     tie.close
     (tie.spec
     invariant-loop

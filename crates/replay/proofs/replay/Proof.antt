@@ -13,8 +13,8 @@ invariant-loop bytes at₀ calls₀ agree₀ at calls agree = (calls ≤ at) × 
 abbrev decreases-loop : tie.decreases-loop
 decreases-loop bytes at₀ calls₀ agree₀ at calls agree = length bytes / 4 - at
 
-pub replay-spec : {M : Type 1} → statement M
-replay-spec =
+pub replay_spec : {M : Type 1} → statement M
+replay_spec =
     tie.close
     (tie.spec
     invariant-loop

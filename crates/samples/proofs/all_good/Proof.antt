@@ -3,7 +3,7 @@ use Rattle.rules.proofs.Common.{◌-◌, ◌≤◌, ◌&&◌, ◌≡◌, refl, l
 use native.Mathlib.Omega.{arith}
 use Rattle.rules.proofs.Loops.{turns}
 use Rattle.samples.specs.Samples.{good}
-use Rattle.samples.proofs.Passed.{one_more, all-passed}
+use Rattle.samples.proofs.Passed.{one_more_lem, all_passed}
 use Rattle.samples.proofs.all_good.Statement.{statement}
 use Rattle.samples.proofs.all_good.Tie as tie
 
@@ -14,8 +14,8 @@ invariant-loop samples soFar₀ i₀ i-end soFar i =
 abbrev decreases-loop : tie.decreases-loop
 decreases-loop samples soFar₀ i₀ i-end soFar i = i-end - i
 
-pub all-good-spec : {M : Type 1} → statement M
-all-good-spec =
+pub all_good_spec : {M : Type 1} → statement M
+all_good_spec =
     tie.close
     (tie.spec
     invariant-loop
@@ -27,6 +27,6 @@ all-good-spec =
     (λ c. search turns)  -- loop-less
     (λ c.
     let l = c.before.before.loop in
-    (omega arith, refl, one_more _ l.so-far l.i (omega arith) l.invariant.2))  -- loop-again
-    (λ c. all-passed _ c.before.loop.so-far c.before.loop.i (omega arith)
+    (omega arith, refl, one_more_lem _ l.so-far l.i (omega arith) l.invariant.2))  -- loop-again
+    (λ c. all_passed _ c.before.loop.so-far c.before.loop.i (omega arith)
     c.before.loop.invariant.2))  -- returns

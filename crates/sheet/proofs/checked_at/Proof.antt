@@ -1,16 +1,16 @@
 use borrow.Author.Rules.{rules}
-use Rattle.sheet.proofs.Halves.{at-34, at-35, at_all}
+use Rattle.sheet.proofs.Halves.{at_34, at_35, at_all}
 use Rattle.sheet.proofs.checked_at.Statement.{statement}
 use Rattle.sheet.proofs.checked_at.Tie as tie
 
 returns : tie.Need-returns
 returns c = let a = c.before.before.before.before in
-    at-34 a.args.file.now a.requires c.before.run_of.ensures c.if1.true
+    at_34 a.args.file.now a.requires c.before.run_of.ensures c.if1.true
 
 returns-2 : tie.Need-returns-2
 returns-2 c =
     let a = c.before.before.before.before.before.before.before.before in
-    at-35 a.args.file.now a.requires c.before.before.before.before.before.run_of.ensures
+    at_35 a.args.file.now a.requires c.before.before.before.before.before.run_of.ensures
     c.before.total.ensures.0 c.before.before.before.number_at.ensures.0
     c.before.before.before.before.if1.false c.if2.true
 
@@ -21,8 +21,8 @@ returns-3 c =
     c.before.total.ensures.0 c.before.before.before.number_at.ensures.0
     c.before.before.before.before.if1.false c.if2.false
 
-pub checked-at-spec : {M : Type 1} → statement M
-checked-at-spec =
+pub checked_at_spec : {M : Type 1} → statement M
+checked_at_spec =
     tie.close
     (tie.spec
     (λ c. search rules)  -- mul-end

@@ -2,8 +2,8 @@ use Rattle.rules.proofs.Common.{[], ◌∷◌, refl, length, length-take}
 use native.Mathlib.Omega.{arith}
 use borrow.Author.Rules.{rules}
 use borrow.Author.Tests.{lt-ltb, le-ltb}
-use Rattle.rules.proofs.Refusals.{leave-both}
-use Rattle.rules.proofs.Places.{all-stored}
+use Rattle.rules.proofs.Refusals.{leave_both}
+use Rattle.rules.proofs.Places.{all_stored}
 use Rattle.sheet.proofs.copy_whole.Statement.{statement}
 use Rattle.sheet.proofs.copy_whole.Tie as tie
 
@@ -11,11 +11,11 @@ returns-2 : tie.Need-returns-2
 returns-2 c =
     let a = c.before.before.before.before.before.before.before.before in
     rw (le-ltb _ _ c.before.before.before.before.if1.false, c.before.before.copy.ensures)
-    (leave-both (all-stored a.args.numbers.now (length a.args.file.now ∷ a.args.records ∷ []) a.requires)
+    (leave_both (all_stored a.args.numbers.now (length a.args.file.now ∷ a.args.records ∷ []) a.requires)
     refl)
 
-pub copy-whole-spec : {M : Type 1} → statement M
-copy-whole-spec =
+pub copy_whole_spec : {M : Type 1} → statement M
+copy_whole_spec =
     tie.close
     (tie.spec
     (λ c. rw (lt-ltb _ _ c.if1.true))  -- returns

@@ -5,8 +5,8 @@ use Rattle.sheet.proofs.Fields.{entry_at}
 use Rattle.sheet.proofs.entry_of.Statement.{statement}
 use Rattle.sheet.proofs.entry_of.Tie as tie
 
-pub entry-of-spec : {M : Type 1} → statement M
-entry-of-spec =
+pub entry_of_spec : {M : Type 1} → statement M
+entry_of_spec =
     tie.close
     (tie.spec
     (λ c κs. search rules)  -- number-at-requires

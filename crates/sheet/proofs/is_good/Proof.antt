@@ -2,24 +2,24 @@ use borrow.Author.Rules.{rules}
 use native.Mathlib.Omega.{arith}
 use Prim.Native.Nat.{◌+◌}
 use Rattle.rules.proofs.Tests.{tests}
-use Rattle.sheet.proofs.Fields.{good-at}
+use Rattle.sheet.proofs.Fields.{good_at}
 use Rattle.sheet.proofs.is_good.Statement.{statement}
 use Rattle.sheet.proofs.is_good.Tie as tie
 
-pub is-good-spec : {M : Type 1} → statement M
-is-good-spec =
+pub is_good_spec : {M : Type 1} → statement M
+is_good_spec =
     tie.close
     (tie.spec
     (λ c. search rules)  -- add-if1
     (λ c. search rules)  -- shared-slice-read-if1
-    (λ c. rw good-at (search tests))  -- returns
+    (λ c. rw good_at (search tests))  -- returns
     (λ c. search rules)  -- add-if2
     (λ c. search rules)  -- shared-slice-read-if2
     (λ c. omega (arith, c.shared-slice-known2.given (c.before.before.before.args.at + 5)))  -- cast-if2
-    (λ c. rw good-at (search tests))  -- returns-2
+    (λ c. rw good_at (search tests))  -- returns-2
     (λ c. search rules)  -- add-if3
     (λ c. search rules)  -- shared-slice-read-if3
-    (λ c. rw good-at (search tests))  -- returns-3
+    (λ c. rw good_at (search tests))  -- returns-3
     (λ c. search rules)  -- add-result
     (λ c. search rules)  -- shared-slice-read-result
-    (λ c. rw good-at (search tests)))  -- returns-4
+    (λ c. rw good_at (search tests)))  -- returns-4

@@ -1,17 +1,17 @@
 use mathlib.Core.Path.{sym, ◌∙◌}
 use borrow.Author.Rules.{rules}
 use Rattle.rules.proofs.Tests.{tests}
-use Rattle.sheet.specs.Mended.{mendOf}
-use Rattle.sheet.proofs.Mending.{by_copy, read-elsewhere, not-read}
+use Rattle.sheet.specs.Mended.{mend_of}
+use Rattle.sheet.proofs.Mending.{by_copy, read_elsewhere, not_read}
 use Rattle.sheet.proofs.mend.Statement.{statement}
 use Rattle.sheet.proofs.mend.Tie as tie
 
 returns : tie.Need-returns
-unfolding mendOf
+unfolding mend_of
 returns c = search tests
 
 returns-2 : tie.Need-returns-2
-unfolding mendOf
+unfolding mend_of
 returns-2 c = search tests
 
 returns-3 : tie.Need-returns-3
@@ -30,7 +30,7 @@ mend-run-requires c κs =
     ∙ c.before.before.before.before.before.before.read.ensures in (
       c.before.before.before.before.before.before.before.before.if1.false,
       c.before.before.before.before.before.before.before.if2.false,
-      read-elsewhere _ _ told c.before.before.if3.false,
+      read_elsewhere _ _ told c.before.before.if3.false,
     )
 
 mend-run-requires-2 : tie.Need-mend-run-requires-2
@@ -38,11 +38,11 @@ mend-run-requires-2 c κs =
     let told = sym c.before.before.enum_told.given.1 ∙ c.before.before.before.before.read.ensures in (
       c.before.before.before.before.before.before.if1.false,
       c.before.before.before.before.before.if2.false,
-      not-read _ _ told,
+      not_read _ _ told,
     )
 
-pub mend-spec : {M : Type 1} → statement M
-mend-spec =
+pub mend_spec : {M : Type 1} → statement M
+mend_spec =
     tie.close
     (tie.spec
     returns

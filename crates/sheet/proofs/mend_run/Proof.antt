@@ -5,12 +5,12 @@ use borrow.Author.Rules.{rules}
 use borrow.Author.Tests.{lt-ltb, le-ltb, eq-eqb, ne_eqb}
 use lib.Seq.{get_or-drop}
 use Rattle.rules.specs.Lists.{Bytes}
-use Rattle.rules.proofs.Refusals.{leave-both}
-use Rattle.rules.proofs.Places.{all-stored}
-use Rattle.sheet.specs.Sheet.{sheetBytes}
-use Rattle.sheet.specs.Mended.{kept, torn, mendOf}
-use Rattle.sheet.proofs.Kept.{kept-known}
-use Rattle.sheet.proofs.Mending.{anew, by-run, part-kept, size-anew, run-within, part-size, lay-anew}
+use Rattle.rules.proofs.Refusals.{leave_both}
+use Rattle.rules.proofs.Places.{all_stored}
+use Rattle.sheet.specs.Sheet.{sheet_bytes}
+use Rattle.sheet.specs.Mended.{kept, torn, mend_of}
+use Rattle.sheet.proofs.Kept.{kept_known}
+use Rattle.sheet.proofs.Mending.{anew, by_run, part_kept, size_anew, run_within, part_size, lay_anew}
 use Rattle.sheet.proofs.mend_run.Statement.{statement}
 use Rattle.sheet.proofs.mend_run.Tie as tie
 
@@ -21,54 +21,54 @@ kept_there : (k : tie.After-kept-of)
     k.before.before.before.before.before.args.file.now)
 kept_there k =
     k.kept_of.ensures ∙ ap kept
-    (part-kept k.before.before.before.before.before.args.file.now
+    (part_kept k.before.before.before.before.before.args.file.now
     k.before.before.before.before.before.args.at)
 
-bytes-there : (k : tie.After-kept-of) → Bytes k.before.before.before.before.before.args.file.now
-bytes-there k i = omega (arith, k.before.before.shared-slice-known.given i)
+bytes_there : (k : tie.After-kept-of) → Bytes k.before.before.before.before.before.args.file.now
+bytes_there k i = omega (arith, k.before.before.shared-slice-known.given i)
 
-some-kept : (k : tie.After-kept-of) → (k.kept_of.result ≡ 0 → ⊥)
+some_kept : (k : tie.After-kept-of) → (k.kept_of.result ≡ 0 → ⊥)
     → kept (drop k.before.before.before.before.before.args.at
     k.before.before.before.before.before.args.file.now) ≡ 0 → ⊥
-some-kept k h e = h (kept_there k ∙ e)
+some_kept k h e = h (kept_there k ∙ e)
 
 within : (k : tie.After-kept-of)
     → k.before.before.before.before.before.args.at + 8 * k.kept_of.result
     ≤ length k.before.before.before.before.before.args.file.now
 within k = let a = k.before.before.before.before.before in
-    run-within a.args.file.now a.args.at a.requires.1 (kept_there k)
+    run_within a.args.file.now a.args.at a.requires.1 (kept_there k)
 
 size : (k : tie.After-kept-of)
     → length (take k.before.before.before.before.before.args.at
     k.before.before.before.before.before.args.file.now
-    ++ sheetBytes
+    ++ sheet_bytes
     (torn (drop k.before.before.before.before.before.args.at
     k.before.before.before.before.before.args.file.now)))
     ≡ k.before.before.before.before.before.args.at + 8 * k.kept_of.result + 16
 size k = let a = k.before.before.before.before.before in
-    size-anew a.args.file.now a.args.at a.requires.1 (kept_there k)
+    size_anew a.args.file.now a.args.at a.requires.1 (kept_there k)
 
 -- the answer by the refusals that are left
-by-the-run : (k : tie.After-kept-of) → let a = k.before.before.before.before.before in
+by_the_run : (k : tie.After-kept-of) → let a = k.before.before.before.before.before in
     anew a.args.file.now a.args.at a.args.numbers.now a.args.out.now
-    ≡ mendOf a.args.file.now a.args.at a.args.numbers.now a.args.out.now
-by-the-run k = let a = k.before.before.before.before.before in
-    by-run a.args.file.now a.args.at a.args.numbers.now a.args.out.now a.requires.0 a.requires.1
+    ≡ mend_of a.args.file.now a.args.at a.args.numbers.now a.args.out.now
+by_the_run k = let a = k.before.before.before.before.before in
+    by_run a.args.file.now a.args.at a.args.numbers.now a.args.out.now a.requires.0 a.requires.1
     a.requires.2
 
 returns : tie.Need-returns
-returns c = rw (← by-the-run c.before, eq-eqb _ 0 (sym (kept_there c.before) ∙ c.if1.true))
+returns c = rw (← by_the_run c.before, eq-eqb _ 0 (sym (kept_there c.before) ∙ c.if1.true))
 
 returns-2 : tie.Need-returns-2
 returns-2 c =
     let k = c.before.before in
-    rw (← by-the-run k, ← kept_there k, ne_eqb _ 0 c.before.if1.false, lt-ltb _ _ c.if2.true)
+    rw (← by_the_run k, ← kept_there k, ne_eqb _ 0 c.before.if1.false, lt-ltb _ _ c.if2.true)
 
 returns-3 : tie.Need-returns-3
 returns-3 c =
     let k = c.before.before.before in
     rw (
-      ← by-the-run k,
+      ← by_the_run k,
       size k,
       ← kept_there k,
       ne_eqb _ 0 c.before.before.if1.false,
@@ -94,9 +94,9 @@ close-requires c κs =
     let a = k.before.before.before.before.before in
     let s = a.args.file.now in
     let known = rw (get_or-drop a.args.at s 5 0) at
-    (kept-known (drop a.args.at s)
-    (some-kept k c.before.before.before.before.before.before.before.before.before.if1.false)) in (
-      part-size s a.args.at a.requires.1 (kept_there k) a.args.out.now
+    (kept_known (drop a.args.at s)
+    (some_kept k c.before.before.before.before.before.before.before.before.before.if1.false)) in (
+      part_size s a.args.at a.requires.1 (kept_there k) a.args.out.now
           c.before.before.before.copy.ensures
           c.before.before.before.before.before.before.before.if3.false,
       omega (arith, c.before.before.before.before.before.before.before.before.if2.false),
@@ -110,29 +110,29 @@ returns-4 c =
     let s = a.args.file.now in
     let at = a.args.at in
     let out = a.args.out.now in
-    let bytes = take at s ++ sheetBytes (torn (drop at s)) in
+    let bytes = take at s ++ sheet_bytes (torn (drop at s)) in
     let some =
-    some-kept k
+    some_kept k
     c.before.before.before.before.before.before.before.before.before.before.before.before.if1.false in
     let few = rw (kept_there k) at
     c.before.before.before.before.before.before.before.before.before.before.before.if2.false in
     let room : length bytes ≤ length out =
     rw (size k) c.before.before.before.before.before.before.before.before.before.before.if3.false in
-    let told = all-stored a.args.numbers.now ((at + 8 * k.kept_of.result + 16) ∷ k.kept_of.result ∷ [])
+    let told = all_stored a.args.numbers.now ((at + 8 * k.kept_of.result + 16) ∷ k.kept_of.result ∷ [])
     a.requires.0 in
-    let laid = lay-anew s at a.requires.1 (kept_there k) out (bytes-there k) (sym (get_or-drop at s 5 0))
+    let laid = lay_anew s at a.requires.1 (kept_there k) out (bytes_there k) (sym (get_or-drop at s 5 0))
     c.before.before.before.before.before.before.copy.ensures c.before.before.close.ensures in
     rw (
-      ← by-the-run k,
+      ← by_the_run k,
       ne_eqb (kept (drop at s)) 0 some,
       le-ltb 536870911 (kept (drop at s)) few,
       le-ltb (length out) (length bytes) room,
       size k,
     )
-    (leave-both (told ∙ rw (← kept_there k)) laid)
+    (leave_both (told ∙ rw (← kept_there k)) laid)
 
-pub mend-run-spec : {M : Type 1} → statement M
-mend-run-spec =
+pub mend_run_spec : {M : Type 1} → statement M
+mend_run_spec =
     tie.close
     (tie.spec
     (λ c. search rules)  -- sub-kept-of

@@ -3,13 +3,13 @@ use Rattle.rules.proofs.Common.{◌+◌, ◌-◌, sym, ◌∙◌, length}
 use native.Mathlib.Omega.{arith}
 use borrow.Author.Rules.{rules}
 use borrow.Author.Tests.{not-true, not-false}
-use Rattle.sheet.proofs.Halves.{distance_is, number_is, side-is, padded-is, at-31, at-32, at-32', at-33, at-33'}
-use Rattle.sheet.proofs.Halves.{at-good}
+use Rattle.sheet.proofs.Halves.{distance_is, number_is, side_is, padded_is, at_31, at_32, at_32', at_33, at_33'}
+use Rattle.sheet.proofs.Halves.{at_good}
 use Rattle.sheet.proofs.pointed_to.Statement.{statement}
 use Rattle.sheet.proofs.pointed_to.Tie as tie
 
 returns : tie.Need-returns
-returns c = (at-31 _ c.if1.true, tt)
+returns c = (at_31 _ c.if1.true, tt)
 
 returns-2 : tie.Need-returns-2
 returns-2 c =
@@ -17,7 +17,7 @@ returns-2 c =
     let s = n.before.before.before.before.args.file.now in
     let ds = n.before.number_at.ensures.0 ∙ sym (distance_is s) in
     let ns = n.number-at2.ensures.0 ∙ sym (number_is s) in
-    (at-32 s ds ns (omega arith) c.if2.true, tt)
+    (at_32 s ds ns (omega arith) c.if2.true, tt)
 
 returns-3 : tie.Need-returns-3
 returns-3 c =
@@ -25,7 +25,7 @@ returns-3 c =
     let s = n.before.before.before.before.args.file.now in
     let ds = n.before.number_at.ensures.0 ∙ sym (distance_is s) in
     let ns = n.number-at2.ensures.0 ∙ sym (number_is s) in
-    (at-32' s ds ns (omega arith) c.before.if2.false c.if3.true, tt)
+    (at_32' s ds ns (omega arith) c.before.if2.false c.if3.true, tt)
 
 cast-side : tie.Need-overflow-cast-side
 cast-side c = let s = c.before.before.before.before.before.before.before.args.file.now in
@@ -37,8 +37,8 @@ returns-4 c =
     let s = n.before.before.before.before.args.file.now in
     let ds = n.before.number_at.ensures.0 ∙ sym (distance_is s) in
     let ns = n.number-at2.ensures.0 ∙ sym (number_is s) in (
-      at-33 s ds ns (omega arith) c.before.before.before.if2.false c.before.before.if3.false
-          (sym (side-is s))
+      at_33 s ds ns (omega arith) c.before.before.before.if2.false c.before.before.if3.false
+          (sym (side_is s))
           c.if4.true,
       tt,
     )
@@ -49,9 +49,9 @@ returns-5 c =
     let s = n.before.before.before.before.args.file.now in
     let ds = n.before.number_at.ensures.0 ∙ sym (distance_is s) in
     let ns = n.number-at2.ensures.0 ∙ sym (number_is s) in
-    let z = padded-is s ∙ sym c.before.zeros-at.ensures ∙ not-true _ c.if5.true in (
-      at-33' s ds ns (omega arith) c.before.before.before.before.before.if2.false
-          c.before.before.before.before.if3.false (sym (side-is s)) c.before.before.if4.false z,
+    let z = padded_is s ∙ sym c.before.zeros_at.ensures ∙ not-true _ c.if5.true in (
+      at_33' s ds ns (omega arith) c.before.before.before.before.before.if2.false
+          c.before.before.before.before.if3.false (sym (side_is s)) c.before.before.if4.false z,
       tt,
     )
 
@@ -61,14 +61,14 @@ returns-6 c =
     let s = n.before.before.before.before.args.file.now in
     let ds = n.before.number_at.ensures.0 ∙ sym (distance_is s) in
     let ns = n.number-at2.ensures.0 ∙ sym (number_is s) in
-    let z = padded-is s ∙ sym c.before.zeros-at.ensures ∙ not-false _ c.if5.false in (
-      at-good s ds ns (omega arith) c.before.before.before.before.before.if2.false
-          c.before.before.before.before.if3.false (sym (side-is s)) c.before.before.if4.false z,
+    let z = padded_is s ∙ sym c.before.zeros_at.ensures ∙ not-false _ c.if5.false in (
+      at_good s ds ns (omega arith) c.before.before.before.before.before.if2.false
+          c.before.before.before.before.if3.false (sym (side_is s)) c.before.before.if4.false z,
       omega (arith, n.before.number_at.ensures.1, c.before.before.before.before.before.if2.false),
     )
 
-pub pointed-to-spec : {M : Type 1} → statement M
-pointed-to-spec =
+pub pointed_to_spec : {M : Type 1} → statement M
+pointed_to_spec =
     tie.close
     (tie.spec
     returns

@@ -13,8 +13,8 @@ invariant-loop bytes sum₀ i₀ i-end acc i = (i ≤ i-end) × (i-end ≡ lengt
 abbrev decreases-loop : tie.decreases-loop
 decreases-loop bytes sum₀ i₀ i-end acc i = i-end - i
 
-pub total-spec : {M : Type 1} → statement M
-total-spec =
+pub total_spec : {M : Type 1} → statement M
+total_spec =
     tie.close
     (tie.spec
     invariant-loop

@@ -1,14 +1,14 @@
 use borrow.Author.Rules.{rules}
-use Rattle.sheet.specs.Sheet.{four, trailerOf}
+use Rattle.sheet.specs.Sheet.{four, trailer_of}
 use Rattle.sheet.proofs.trailer_of.Statement.{statement}
 use Rattle.sheet.proofs.trailer_of.Tie as tie
 
 returns : tie.Need-returns
-unfolding trailerOf four
+unfolding trailer_of four
 returns c = cc
 
-pub trailer-of-spec : {M : Type 1} → statement M
-trailer-of-spec =
+pub trailer_of_spec : {M : Type 1} → statement M
+trailer_of_spec =
     tie.close
     (tie.spec
     (λ c. search rules)  -- mul-distance

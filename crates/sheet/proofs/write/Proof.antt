@@ -5,8 +5,8 @@ use borrow.Author.Tests.{lt-ltb, le-ltb, not-true, not-false}
 use Rattle.rules.proofs.Refusals.{leaves}
 use Rattle.rules.proofs.Tests.{tests}
 use Rattle.sheet.specs.Written.{written_of}
-use Rattle.sheet.proofs.Runs.{all-heard}
-use Rattle.sheet.proofs.Laying.{front-size, close-all}
+use Rattle.sheet.proofs.Runs.{all_heard}
+use Rattle.sheet.proofs.Laying.{front_size, close_all}
 use Rattle.sheet.proofs.write.Statement.{statement}
 use Rattle.sheet.proofs.write.Tie as tie
 
@@ -36,13 +36,13 @@ write-records-requires c κs =
     let k = c.before.before.before in (
       simp length-take (omega arith),
       k.before.if2.false,
-      all-heard _ (sym k.kinds-good.ensures ∙ not-false _ c.before.before.if3.false),
+      all_heard _ (sym k.kinds-good.ensures ∙ not-false _ c.before.before.if3.false),
     )
 
 close-requires : tie.Need-close-requires
 close-requires c κs =
     let a = c.before.before.before.before.before.before.before.before.before.before.before.before.args in (
-      front-size a.side a.entries.now a.out.now c.before.before.before.write-records.ensures
+      front_size a.side a.entries.now a.out.now c.before.before.before.write-records.ensures
           c.before.before.before.before.before.if4.false,
       omega (arith, c.before.before.before.before.before.before.before.before.before.if1.false),
       c.before.before.before.before.before.before.before.before.if2.false,
@@ -64,7 +64,7 @@ returns-5 c =
       c.before.before.close.ensures,
       c.before.before.before.before.before.before.write-records.ensures,
     )
-    (leaves (close-all (record { side = a.side; entries = a.entries.now }) a.out.now
+    (leaves (close_all (record { side = a.side; entries = a.entries.now }) a.out.now
     c.before.before.before.before.before.before.before.before.if4.false))
 
 pub write_spec : {M : Type 1} → statement M
@@ -84,7 +84,7 @@ write_spec =
     (λ c. search rules)  -- slice-relend-prefix-close
     (λ c.
     let a = c.before.before.before.before.before.before.before.before.before.before.before.before.args in
-    sym (front-size a.side a.entries.now a.out.now c.before.before.before.write-records.ensures
+    sym (front_size a.side a.entries.now a.out.now c.before.before.before.write-records.ensures
     c.before.before.before.before.before.if4.false))  -- slice-aggregate-close
     close-requires
     (λ c. search rules)  -- same-length

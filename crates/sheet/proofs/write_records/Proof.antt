@@ -2,7 +2,7 @@
 use Rattle.rules.proofs.Common.{◌+◌, ◌-◌, ◌*◌, ◌≤◌, ◌≡◌, refl, ap, ◌∙◌, length, length-take, length-drop}
 use native.Mathlib.Omega.{arith}
 use Rattle.rules.proofs.Loops.{turns}
-use Rattle.sheet.proofs.Laying.{length-record, laid, length-laid, lay-more, lay-ended}
+use Rattle.sheet.proofs.Laying.{length_record, laid, length_laid, lay_more, lay_ended}
 use Rattle.sheet.proofs.write_records.Statement.{statement}
 use Rattle.sheet.proofs.write_records.Tie as tie
 
@@ -17,12 +17,12 @@ loop-again : tie.Need-loop-preserved invariant-loop decreases-loop
 loop-again c =
     let l = c.before.before.before.before.before.before.before.before.loop in
     let a = c.before.before.before.before.before.before.before.before.before.before.before in
-    let next = lay-more _ _ l.i a.args.out.now (omega arith)
+    let next = lay_more _ _ l.i a.args.out.now (omega arith)
     (c.before.before.copy.ensures ∙ c.before.before.before.before.before.record_of.ensures) l.invariant.3 in
-    (omega arith, refl, ap length next ∙ length-laid _ _ (l.i + 1) _ (omega arith) a.requires.0, next)
+    (omega arith, refl, ap length next ∙ length_laid _ _ (l.i + 1) _ (omega arith) a.requires.0, next)
 
-pub write-records-spec : {M : Type 1} → statement M
-write-records-spec =
+pub write_records_spec : {M : Type 1} → statement M
+write_records_spec =
     tie.close
     (tie.spec
     invariant-loop
@@ -40,7 +40,7 @@ write-records-spec =
     (λ c. search turns)  -- part-copy-end
     (λ c. search turns)  -- slice-aggregate-copy
     (λ c κs.
-    let size = ap length c.before.before.record_of.ensures ∙ length-record _ _ in
+    let size = ap length c.before.before.record_of.ensures ∙ length_record _ _ in
     simp (length-take, length-drop) (omega arith))  -- copy-requires
     (λ c. search turns)  -- add-i
     (λ c. search turns)  -- loop-less
@@ -48,5 +48,5 @@ write-records-spec =
     (λ c. search turns)  -- same-length
     (λ c.
     let l = c.before.loop in
-    lay-ended _ _ l.i _ (omega arith) (omega (arith, c.before.before.before.before.requires.0))
+    lay_ended _ _ l.i _ (omega arith) (omega (arith, c.before.before.before.before.requires.0))
     l.invariant.3))  -- returns

@@ -3,8 +3,8 @@ use Rattle.sides.specs.Sides.{LEFT, RGHT}
 use Rattle.sides.proofs.of_letters.Statement.{statement}
 use Rattle.sides.proofs.of_letters.Tie as tie
 
-pub of-letters-spec : {M : Type 1} → statement M
-of-letters-spec =
+pub of_letters_spec : {M : Type 1} → statement M
+of_letters_spec =
     tie.close
     (tie.spec
     (λ c. rw (eq-eqb _ LEFT c.if1.true))  -- returns

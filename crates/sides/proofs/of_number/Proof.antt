@@ -2,8 +2,8 @@ use borrow.Author.Tests.{eq-eqb, ne_eqb}
 use Rattle.sides.proofs.of_number.Statement.{statement}
 use Rattle.sides.proofs.of_number.Tie as tie
 
-pub of-number-spec : {M : Type 1} → statement M
-of-number-spec =
+pub of_number_spec : {M : Type 1} → statement M
+of_number_spec =
     tie.close
     (tie.spec
     (λ c. rw (eq-eqb _ 0 c.if1.true))  -- returns

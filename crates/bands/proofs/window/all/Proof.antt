@@ -8,5 +8,5 @@ returns : tie.Need-returns
 unfolding window
 returns c = refl
 
-pub all-spec : {M : Type 1} → statement M
-all-spec = tie.close (tie.spec returns)
+pub all_spec : {M : Type 1} → statement M
+all_spec = tie.close (tie.spec returns)

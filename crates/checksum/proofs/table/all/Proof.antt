@@ -10,5 +10,5 @@ returns : tie.Need-returns
 unfolding table tab loop
 returns c = refl
 
-pub all-spec : {M : Type 1} → statement M
-all-spec = tie.close (tie.spec returns)
+pub all_spec : {M : Type 1} → statement M
+all_spec = tie.close (tie.spec returns)

@@ -9,8 +9,8 @@ returns c =
     let w1 = w2.before.before in
     rw (c.bench-number.ensures, w2.wide2.ensures, w1.wide.ensures)
 
-pub belongs-spec : {M : Type 1} → statement M
-belongs-spec =
+pub belongs_spec : {M : Type 1} → statement M
+belongs_spec =
     tie.close
     (tie.spec
     (λ c. search rules)  -- shared-slice-read-wide

@@ -4,8 +4,8 @@ use Rattle.rules.proofs.Tests.{tests}
 use Rattle.export.proofs.of_desk.bench_number.Statement.{statement}
 use Rattle.export.proofs.of_desk.bench_number.Tie as tie
 
-pub bench-number-spec : {M : Type 1} → statement M
-bench-number-spec =
+pub bench_number_spec : {M : Type 1} → statement M
+bench_number_spec =
     tie.close
     (tie.spec
     (λ c. search tests)  -- returns

@@ -3,8 +3,8 @@ use Rattle.rules.proofs.Tests.{tests}
 use Rattle.export.proofs.of_desk.places.Statement.{statement}
 use Rattle.export.proofs.of_desk.places.Tie as tie
 
-pub places-spec : {M : Type 1} → statement M
-places-spec =
+pub places_spec : {M : Type 1} → statement M
+places_spec =
     tie.close
     (tie.spec
     (λ c. search tests)  -- returns

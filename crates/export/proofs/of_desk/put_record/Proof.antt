@@ -3,14 +3,14 @@ use borrow.Author.Rules.{rules}
 use native.Mathlib.Omega.{arith}
 use lib.ListN.{length-set}
 use Rattle.rules.proofs.Common.{ℕ, ◌+◌, ◌≤◌, ◌<◌, Bool, true, false, cond, eqb}
-use Rattle.rules.proofs.Places.{all-stored}
+use Rattle.rules.proofs.Places.{all_stored}
 use Rattle.desk.specs.Gate.{BENCHES}
-use Rattle.desk.specs.Surface.{benchNumber, numbersOf}
+use Rattle.desk.specs.Surface.{bench_number, numbers_of}
 use Rattle.export.proofs.of_desk.put_record.Statement.{statement}
 use Rattle.export.proofs.of_desk.put_record.Tie as tie
 
 -- a bench's number fits
-small : (side due : ℕ) → side < BENCHES → benchNumber side due ≤ 16
+small : (side due : ℕ) → side < BENCHES → bench_number side due ≤ 16
 small side due h = go (eqb due 0)
   where
     go : (t : Bool) → cond t 0 (side + 1) ≤ 16
@@ -28,10 +28,10 @@ returns c =
     let way = c.before in
     let start = way.before.before.before.before.before.before.before.before.before.before.before in
     rw (c.bench-number.ensures, way.way-number.ensures)
-    (all-stored start.args.«record».now (numbersOf start.args.side start.args.rec) start.requires.0)
+    (all_stored start.args.«record».now (numbers_of start.args.side start.args.rec) start.requires.0)
 
-pub put-record-spec : {M : Type 1} → statement M
-put-record-spec =
+pub put_record_spec : {M : Type 1} → statement M
+put_record_spec =
     tie.close
     (tie.spec
     (λ c. search rules)  -- cast-record

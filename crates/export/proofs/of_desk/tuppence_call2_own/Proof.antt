@@ -2,14 +2,14 @@
 -- Assumes nothing.
 use mathlib.Core.Path.{refl}
 use borrow.Author.Rules.{rules}
-use Rattle.export.proofs.Handed.{hands-back, handed}
+use Rattle.export.proofs.Handed.{hands_back, handed}
 use Rattle.export.proofs.of_desk.tuppence_call2_own.Statement.{statement}
 use Rattle.export.proofs.of_desk.tuppence_call2_own.Tie as tie
 
 hand-back-requires : tie.Need-hand-back-requires
 hand-back-requires c κs =
     let d = c.before.before.before.before.before.before.before in
-    hands-back _ _ _ _ _ _ _ _ _ d.before.before.before.before.record-in.ensures d.call2-own.ensures
+    hands_back _ _ _ _ _ _ _ _ _ d.before.before.before.before.record-in.ensures d.call2-own.ensures
 
 returns : tie.Need-returns
 returns c =
@@ -18,8 +18,8 @@ returns c =
     handed _ _ _ _ _ _ _ _ _ d.before.before.before.before.record-in.ensures d.call2-own.ensures
     h.hand-back.ensures refl
 
-pub tuppence-call2-own-spec : {M : Type 1} → statement M
-tuppence-call2-own-spec =
+pub tuppence_call2_own_spec : {M : Type 1} → statement M
+tuppence_call2_own_spec =
     tie.close
     (tie.spec
     (λ c κs. search rules)  -- record-in-requires

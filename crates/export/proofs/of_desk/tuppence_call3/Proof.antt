@@ -6,9 +6,9 @@ use borrow.Author.Rules.{rules}
 use Rattle.rules.specs.Place.{get, put}
 use Rattle.desk.specs.Gate.{BENCHES}
 use Rattle.desk.specs.Desk.{call3}
-use Rattle.desk.proofs.Replies.{no-out}
+use Rattle.desk.proofs.Replies.{no_out}
 use Rattle.export.proofs.Given.{no_more}
-use Rattle.export.proofs.Handed.{hands-back, three, handed-three}
+use Rattle.export.proofs.Handed.{hands_back, three, handed_three}
 use Rattle.export.proofs.of_desk.tuppence_call3.Statement.{statement}
 use Rattle.export.proofs.of_desk.tuppence_call3.Tie as tie
 
@@ -27,13 +27,13 @@ tell-requires c κs =
     let a = p.before.before.before.before.before.before.before.before.args in
     three _ _ _ _ _ (call3 a.spectrum.now a.logs.now a.model.now) a.out.now a.answer.now _ []
     [] _ p.places.result
-    (no-out BENCHES _ _ _ a.spectrum.now a.logs.now a.model.now) (λ _. refl) (λ _ _. refl)
+    (no_out BENCHES _ _ _ a.spectrum.now a.logs.now a.model.now) (λ _. refl) (λ _ _. refl)
     r.record-in.ensures p.places.ensures d.call3.ensures
 
 hand-back-requires : tie.Need-hand-back-requires
 hand-back-requires c κs =
     let d = c.before.before.before.before.before.before.before.before.before in
-    hands-back _ _ _ _ _ _ _ _ _ d.before.before.before.record-in.ensures d.call3.ensures
+    hands_back _ _ _ _ _ _ _ _ _ d.before.before.before.record-in.ensures d.call3.ensures
 
 returns : tie.Need-returns
 unfolding get put
@@ -44,14 +44,14 @@ returns c =
     let r = d.before.before.before in
     let p = r.before.before in
     let a = p.before.before.before.before.before.before.before.before.args in
-    handed-three _ _ _ _ _ (call3 a.spectrum.now a.logs.now a.model.now) a.out.now
+    handed_three _ _ _ _ _ (call3 a.spectrum.now a.logs.now a.model.now) a.out.now
     a.answer.now _ [] [] _ p.places.result
-    (no-out BENCHES _ _ _ a.spectrum.now a.logs.now a.model.now) (λ _. refl) (λ _ _. refl)
+    (no_out BENCHES _ _ _ a.spectrum.now a.logs.now a.model.now) (λ _. refl) (λ _ _. refl)
     r.record-in.ensures p.places.ensures d.call3.ensures
     (omega (arith, d.call3.auto)) t.tell.ensures h.hand-back.ensures
 
-pub tuppence-call3-spec : {M : Type 1} → statement M
-tuppence-call3-spec =
+pub tuppence_call3_spec : {M : Type 1} → statement M
+tuppence_call3_spec =
     tie.close
     (tie.spec
     (λ c κs. search rules)  -- places-requires

@@ -2,14 +2,14 @@
 -- Assumes nothing.
 use mathlib.Core.Path.{refl}
 use borrow.Author.Rules.{rules}
-use Rattle.export.proofs.Handed.{hands-back, handed}
+use Rattle.export.proofs.Handed.{hands_back, handed}
 use Rattle.export.proofs.of_desk.tuppence_open_crate.Statement.{statement}
 use Rattle.export.proofs.of_desk.tuppence_open_crate.Tie as tie
 
 hand-back-requires : tie.Need-hand-back-requires
 hand-back-requires c κs =
     let d = c.before.before.before in
-    hands-back _ _ _ _ _ _ _ _ _ d.before.before.record-in.ensures d.open.ensures
+    hands_back _ _ _ _ _ _ _ _ _ d.before.before.record-in.ensures d.open.ensures
 
 returns : tie.Need-returns
 returns c =
@@ -17,8 +17,8 @@ returns c =
     let d = h.before.before.before.before in
     handed _ _ _ _ _ _ _ _ _ d.before.before.record-in.ensures d.open.ensures h.hand-back.ensures refl
 
-pub tuppence-open-crate-spec : {M : Type 1} → statement M
-tuppence-open-crate-spec =
+pub tuppence_open_crate_spec : {M : Type 1} → statement M
+tuppence_open_crate_spec =
     tie.close
     (tie.spec
     (λ c κs. search rules)  -- record-in-requires

@@ -6,9 +6,9 @@ use borrow.Author.Rules.{rules}
 use Rattle.rules.specs.Place.{get, put}
 use Rattle.desk.specs.Gate.{BENCHES}
 use Rattle.desk.specs.Desk.{resume}
-use Rattle.desk.proofs.Replies.{no-resume-out}
+use Rattle.desk.proofs.Replies.{no_resume_out}
 use Rattle.export.proofs.Given.{no_more}
-use Rattle.export.proofs.Handed.{hands-back, three, handed-three}
+use Rattle.export.proofs.Handed.{hands_back, three, handed_three}
 use Rattle.export.proofs.of_desk.tuppence_resume.Statement.{statement}
 use Rattle.export.proofs.of_desk.tuppence_resume.Tie as tie
 
@@ -27,14 +27,14 @@ tell-requires c κs =
     let a = p.before.before.before.before.before.before.before.before.before.args in
     three _ _ _ _ _ (λ n. resume a.samples.now a.logs.now a.model.now n (length a.sums.now))
     a.out.now a.answer.now _ (a.sums.now ∷ []) _ _
-    p.places.result (no-resume-out BENCHES _ _ _ a.samples.now a.logs.now a.model.now
+    p.places.result (no_resume_out BENCHES _ _ _ a.samples.now a.logs.now a.model.now
     (length a.sums.now)) (λ _. refl) (λ _ _. refl)
     r.record-in.ensures p.places.ensures d.resume.ensures
 
 hand-back-requires : tie.Need-hand-back-requires
 hand-back-requires c κs =
     let d = c.before.before.before.before.before.before.before.before.before.before.before in
-    hands-back _ _ _ _ _ _ _ _ _ d.before.before.before.before.record-in.ensures d.resume.ensures
+    hands_back _ _ _ _ _ _ _ _ _ d.before.before.before.before.record-in.ensures d.resume.ensures
 
 returns : tie.Need-returns
 unfolding get put
@@ -45,15 +45,15 @@ returns c =
     let r = d.before.before.before.before in
     let p = r.before.before in
     let a = p.before.before.before.before.before.before.before.before.before.args in
-    handed-three _ _ _ _ _ (λ n. resume a.samples.now a.logs.now a.model.now n (length a.sums.now))
+    handed_three _ _ _ _ _ (λ n. resume a.samples.now a.logs.now a.model.now n (length a.sums.now))
     a.out.now a.answer.now _ (a.sums.now ∷ []) _ _
-    p.places.result (no-resume-out BENCHES _ _ _ a.samples.now a.logs.now a.model.now
+    p.places.result (no_resume_out BENCHES _ _ _ a.samples.now a.logs.now a.model.now
     (length a.sums.now)) (λ _. refl) (λ _ _. refl)
     r.record-in.ensures p.places.ensures d.resume.ensures
     (omega (arith, d.resume.auto)) t.tell.ensures h.hand-back.ensures
 
-pub tuppence-resume-spec : {M : Type 1} → statement M
-tuppence-resume-spec =
+pub tuppence_resume_spec : {M : Type 1} → statement M
+tuppence_resume_spec =
     tie.close
     (tie.spec
     (λ c κs. search rules)  -- places-requires

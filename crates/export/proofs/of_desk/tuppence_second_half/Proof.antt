@@ -5,10 +5,10 @@ use native.Mathlib.Omega.{arith}
 use borrow.Author.Rules.{rules}
 use Rattle.rules.specs.Place.{get, put}
 use Rattle.desk.specs.Gate.{BENCHES}
-use Rattle.desk.specs.Desk.{secondHalf}
-use Rattle.desk.proofs.Replies.{no-half-out}
+use Rattle.desk.specs.Desk.{second_half}
+use Rattle.desk.proofs.Replies.{no_half_out}
 use Rattle.export.proofs.Given.{no_more}
-use Rattle.export.proofs.Handed.{hands-back, three, handed-three}
+use Rattle.export.proofs.Handed.{hands_back, three, handed_three}
 use Rattle.export.proofs.of_desk.tuppence_second_half.Statement.{statement}
 use Rattle.export.proofs.of_desk.tuppence_second_half.Tie as tie
 
@@ -25,15 +25,15 @@ tell-requires c κs =
     let r = d.before.before.before in
     let p = r.before.before in
     let a = p.before.before.before.before.before.before.before.args in
-    three _ _ _ _ _ (secondHalf a.logs.now a.model.now) a.out.now a.answer.now _ []
+    three _ _ _ _ _ (second_half a.logs.now a.model.now) a.out.now a.answer.now _ []
     [] _ p.places.result
-    (no-half-out BENCHES _ _ _ a.logs.now a.model.now) (λ _. refl) (λ _ _. refl) r.record-in.ensures
+    (no_half_out BENCHES _ _ _ a.logs.now a.model.now) (λ _. refl) (λ _ _. refl) r.record-in.ensures
     p.places.ensures d.second-half.ensures
 
 hand-back-requires : tie.Need-hand-back-requires
 hand-back-requires c κs =
     let d = c.before.before.before.before.before.before.before.before.before in
-    hands-back _ _ _ _ _ _ _ _ _ d.before.before.before.record-in.ensures d.second-half.ensures
+    hands_back _ _ _ _ _ _ _ _ _ d.before.before.before.record-in.ensures d.second-half.ensures
 
 returns : tie.Need-returns
 unfolding get put
@@ -44,14 +44,14 @@ returns c =
     let r = d.before.before.before in
     let p = r.before.before in
     let a = p.before.before.before.before.before.before.before.args in
-    handed-three _ _ _ _ _ (secondHalf a.logs.now a.model.now) a.out.now a.answer.now _ []
+    handed_three _ _ _ _ _ (second_half a.logs.now a.model.now) a.out.now a.answer.now _ []
     [] _ p.places.result
-    (no-half-out BENCHES _ _ _ a.logs.now a.model.now) (λ _. refl) (λ _ _. refl) r.record-in.ensures
+    (no_half_out BENCHES _ _ _ a.logs.now a.model.now) (λ _. refl) (λ _ _. refl) r.record-in.ensures
     p.places.ensures d.second-half.ensures
     (omega (arith, d.second-half.auto)) t.tell.ensures h.hand-back.ensures
 
-pub tuppence-second-half-spec : {M : Type 1} → statement M
-tuppence-second-half-spec =
+pub tuppence_second_half_spec : {M : Type 1} → statement M
+tuppence_second_half_spec =
     tie.close
     (tie.spec
     (λ c κs. search rules)  -- places-requires

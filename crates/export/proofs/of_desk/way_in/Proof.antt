@@ -3,8 +3,8 @@ use Rattle.rules.proofs.Tests.{tests}
 use Rattle.export.proofs.of_desk.way_in.Statement.{statement}
 use Rattle.export.proofs.of_desk.way_in.Tie as tie
 
-pub way-in-spec : {M : Type 1} → statement M
-way-in-spec =
+pub way_in_spec : {M : Type 1} → statement M
+way_in_spec =
     tie.close
     (tie.spec
     (λ c. search tests)  -- returns

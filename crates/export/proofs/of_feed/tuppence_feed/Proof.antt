@@ -6,11 +6,11 @@ use Rattle.frame.specs.Reply.{passed}
 use Rattle.desk.specs.declared.Answer.{Answer}
 use Rattle.desk.specs.declared.Record.{Record}
 use Rattle.desk.specs.Gate.{BENCHES}
-use Rattle.desk.specs.Surface.{recordIn, numbersOf, replyNumber}
+use Rattle.desk.specs.Surface.{record_in, numbers_of, reply_number}
 use Rattle.desk.specs.Surface as surface
 use Rattle.feed.specs.Feed.{Block, block_of, feed}
-use Rattle.feed.specs.Surface.{hostedFeed}
-use Rattle.feed.proofs.Ranged.{feed-small, feed-range, feed-seated}
+use Rattle.feed.specs.Surface.{hosted_feed}
+use Rattle.feed.proofs.Ranged.{feed_small, feed_range, feed_seated}
 use Rattle.export.specs.Private.{HandsBack}
 use Rattle.export.proofs.Given as any
 use Rattle.export.proofs.of_feed.tuppence_feed.Statement.{statement}
@@ -20,27 +20,27 @@ use Rattle.export.proofs.of_feed.tuppence_feed.Tie as tie
 module _ (side : ℕ) (ns : List ℕ) (b : Record) (store : List Float) (block : Block) (model cleaned records : List ℕ)
     (answers : List Float)
     {store' : List Float} {cleaned' records' : List ℕ} {answers' : List Float} {given : Answer}
-    (read : b ≡ recordIn side ns)
+    (read : b ≡ record_in side ns)
     (fed : WorkedBoth (feed BENCHES side b store block model (length cleaned) (length records) (length answers)) given
     store'
     (answers ∷ []) (answers' ∷ []) (cleaned ∷ records ∷ []) (cleaned' ∷ records' ∷ [])) where
-  hands-back : HandsBack side ns given
-  hands-back =
-      any.hands-back side ns b read
+  hands_back : HandsBack side ns given
+  hands_back =
+      any.hands_back side ns b read
       (record {
-        small = feed-small BENCHES side b store block model (length cleaned) (length records) (length answers);
-        ranged = feed-range BENCHES side b store block model (length cleaned) (length records) (length answers);
-        seated = feed-seated BENCHES side b store block model (length cleaned) (length records) (length answers);
+        small = feed_small BENCHES side b store block model (length cleaned) (length records) (length answers);
+        ranged = feed_range BENCHES side b store block model (length cleaned) (length records) (length answers);
+        seated = feed_seated BENCHES side b store block model (length cleaned) (length records) (length answers);
       })
       fed.floats.answers
 
   handed : {number : ℕ} {ns' : List ℕ}
-      → (number ≡ replyNumber given.reply) × (ns' ≡ cond (passed given.reply) (numbersOf side given.rec) ns)
+      → (number ≡ reply_number given.reply) × (ns' ≡ cond (passed given.reply) (numbers_of side given.rec) ns)
       → WorkedBoth (surface.handed side ns
-      (hostedFeed BENCHES side ns store block model (length cleaned) (length records) (length answers)))
+      (hosted_feed BENCHES side ns store block model (length cleaned) (length records) (length answers)))
       (number, ns') store'
       (answers ∷ []) (answers' ∷ []) (cleaned ∷ records ∷ []) (cleaned' ∷ records' ∷ [])
-  unfolding hostedFeed
+  unfolding hosted_feed
   handed h =
       rw (← read)
       (record {
@@ -58,7 +58,7 @@ hand-back-requires c κs =
     let d = c.before.before.before.before.before.before.before.before.before in
     let r = d.before.before.before.before.before in
     let a = r.before.before.before.before.before.before.before.before.before.args in
-    hands-back a.side _ _ a.store.now (block_of a.bytes.now a.format a.channels a.channel)
+    hands_back a.side _ _ a.store.now (block_of a.bytes.now a.format a.channels a.channel)
     a.model.now a.out.now a.records.now a.answers.now
     r.record-in.ensures d.feed.ensures
 
@@ -72,8 +72,8 @@ returns c =
     a.model.now a.out.now a.records.now a.answers.now
     r.record-in.ensures d.feed.ensures h.hand-back.ensures
 
-pub tuppence-feed-spec : {M : Type 1} → statement M
-tuppence-feed-spec =
+pub tuppence_feed_spec : {M : Type 1} → statement M
+tuppence_feed_spec =
     tie.close
     (tie.spec
     (λ c κs. search rules)  -- record-in-requires

@@ -3,10 +3,10 @@ use Rattle.rules.proofs.Common.{refl, length, length-set}
 use native.Mathlib.Omega.{arith}
 use borrow.Author.Rules.{rules}
 use Rattle.rules.specs.Leaf.{done, refused}
-use Rattle.rules.proofs.Places.{all-stored}
+use Rattle.rules.proofs.Places.{all_stored}
 use Rattle.numbers.proofs.Outputs.{filters}
-use Rattle.numbers.specs.Filter.{memoryOf, memoryList}
-use Rattle.export.specs.OfNumbers.{BiquadFits, biquadOf}
+use Rattle.numbers.specs.Filter.{memory_of, memory_list}
+use Rattle.export.specs.OfNumbers.{BiquadFits, biquad_of}
 use Rattle.export.proofs.of_numbers.tuppence_filter.Statement.{statement}
 use Rattle.export.proofs.of_numbers.tuppence_filter.Tie as tie
 
@@ -19,12 +19,12 @@ returns-4 c =
     (length a.input.now) =
     record { memories = omega arith; four = omega arith; same = omega arith } in
     let m = called.filter.result.memory in
-    let f = filters (biquadOf a.coefficients.now) (memoryOf a.memory.now) a.input.now
+    let f = filters (biquad_of a.coefficients.now) (memory_of a.memory.now) a.input.now
     called.filter.ensures fits.same in
-    done fits (rw (all-stored a.memory.now (memoryList m) fits.memories, f.0, f.1))
+    done fits (rw (all_stored a.memory.now (memory_list m) fits.memories, f.0, f.1))
 
-pub tuppence-filter-spec : {M : Type 1} → statement M
-tuppence-filter-spec =
+pub tuppence_filter_spec : {M : Type 1} → statement M
+tuppence_filter_spec =
     tie.close
     (tie.spec
     (λ c. refused (λ fits. c.if1.true fits.memories) refl)  -- returns

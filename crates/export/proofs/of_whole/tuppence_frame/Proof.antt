@@ -7,9 +7,9 @@ use Rattle.rules.specs.Place.{get, put}
 use Rattle.desk.specs.declared.Record.{Record}
 use Rattle.desk.specs.Gate.{BENCHES}
 use Rattle.whole.specs.Whole.{frame}
-use Rattle.whole.specs.Surface.{hostedFrame}
-use Rattle.whole.proofs.Ranged.{frame_small, frame-range, frame-seated, frame-buffers, frame-no-out}
-use Rattle.export.proofs.Given.{Sound, Telling, hands-back, no_more, three, told-three}
+use Rattle.whole.specs.Surface.{hosted_frame}
+use Rattle.whole.proofs.Ranged.{frame_small, frame_range, frame_seated, frame_buffers, frame_no_out}
+use Rattle.export.proofs.Given.{Sound, Telling, hands_back, no_more, three, told_three}
 use Rattle.export.proofs.of_whole.tuppence_frame.Statement.{statement}
 use Rattle.export.proofs.of_whole.tuppence_frame.Tie as tie
 
@@ -18,15 +18,15 @@ module _ (side : ℕ) (b : Record) (store samples : List Float) (model : List �
   sound out =
       record {
         small = frame_small BENCHES side b store samples model out;
-        ranged = frame-range BENCHES side b store samples model out;
-        seated = frame-seated BENCHES side b store samples model out;
+        ranged = frame_range BENCHES side b store samples model out;
+        seated = frame_seated BENCHES side b store samples model out;
       }
 
   known : Telling 1 (frame BENCHES side b store samples model)
   known =
       record {
-        no_place = frame-no-out BENCHES side b store samples model;
-        writes = frame-buffers BENCHES side b store samples model;
+        no_place = frame_no_out BENCHES side b store samples model;
+        writes = frame_buffers BENCHES side b store samples model;
       }
 
 part-frame-end : tie.Need-slice-bounds-frame-end
@@ -52,12 +52,12 @@ hand-back-requires c κs =
     let d = c.before.before.before.before.before.before.before.before.before in
     let r = d.before.before.before in
     let a = r.before.before.before.before.before.before.before.before.before.args in
-    hands-back a.side _ _ r.record-in.ensures
+    hands_back a.side _ _ r.record-in.ensures
     (sound a.side r.record-in.result a.store.now a.samples.now a.model.now _)
     d.frame.ensures.answers
 
 returns : tie.Need-returns
-unfolding get put hostedFrame
+unfolding get put hosted_frame
 returns c =
     let h = c.before.before in
     let t = h.before.before.before.before in
@@ -66,14 +66,14 @@ returns c =
     let p = r.before.before in
     let a = p.before.before.before.before.before.before.before.args in
     rw (← r.record-in.ensures)
-    (told-three a.side _ _ (frame BENCHES a.side r.record-in.result a.store.now a.samples.now
+    (told_three a.side _ _ (frame BENCHES a.side r.record-in.result a.store.now a.samples.now
     a.model.now) a.out.now a.answer.now _ [] [] _ p.places.result
     (known a.side r.record-in.result a.store.now a.samples.now a.model.now) p.places.ensures
     d.frame.ensures
     (omega (arith, d.frame.auto)) t.tell.ensures h.hand-back.ensures)
 
-pub tuppence-frame-spec : {M : Type 1} → statement M
-tuppence-frame-spec =
+pub tuppence_frame_spec : {M : Type 1} → statement M
+tuppence_frame_spec =
     tie.close
     (tie.spec
     (λ c κs. search rules)  -- places-requires

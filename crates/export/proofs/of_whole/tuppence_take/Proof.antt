@@ -7,11 +7,11 @@ use Rattle.frame.specs.Reply.{passed}
 use Rattle.desk.specs.declared.Answer.{Answer}
 use Rattle.desk.specs.declared.Record.{Record}
 use Rattle.desk.specs.Gate.{BENCHES}
-use Rattle.desk.specs.Surface.{recordIn, numbersOf, replyNumber}
+use Rattle.desk.specs.Surface.{record_in, numbers_of, reply_number}
 use Rattle.desk.specs.Surface as surface
 use Rattle.whole.specs.Whole.{take}
-use Rattle.whole.specs.Surface.{hostedTake}
-use Rattle.whole.proofs.Ranged.{take-small, take_range, take-seated}
+use Rattle.whole.specs.Surface.{hosted_take}
+use Rattle.whole.proofs.Ranged.{take_small, take_range, take_seated}
 use Rattle.export.specs.Private.{HandsBack}
 use Rattle.export.proofs.Given as any
 use Rattle.export.proofs.of_whole.tuppence_take.Statement.{statement}
@@ -20,24 +20,24 @@ use Rattle.export.proofs.of_whole.tuppence_take.Tie as tie
 -- the record as the code has it, and what the take left
 module _ (side : ℕ) (ns : List ℕ) (b : Record) (store samples : List Float) (model : List ℕ) (out answers : List Float)
     {store' : List Float} {left : List (List Float)} {given : Answer}
-    (read : b ≡ recordIn side ns)
+    (read : b ≡ record_in side ns)
     (took : Worked (take BENCHES side b store samples model (length out) (length answers)) given store'
     (out ∷ answers ∷ []) left) where
-  hands-back : HandsBack side ns given
-  hands-back =
-      any.hands-back side ns b read
+  hands_back : HandsBack side ns given
+  hands_back =
+      any.hands_back side ns b read
       (record {
-        small = take-small BENCHES side samples model b store (length out) (length answers);
+        small = take_small BENCHES side samples model b store (length out) (length answers);
         ranged = take_range BENCHES side samples model b store (length out) (length answers);
-        seated = take-seated BENCHES side samples model b store (length out) (length answers);
+        seated = take_seated BENCHES side samples model b store (length out) (length answers);
       })
       took.answers
 
   handed : {number : ℕ} {ns' : List ℕ}
-      → (number ≡ replyNumber given.reply) × (ns' ≡ cond (passed given.reply) (numbersOf side given.rec) ns)
-      → Worked (surface.handed side ns (hostedTake BENCHES side ns store samples model (length out) (length answers)))
+      → (number ≡ reply_number given.reply) × (ns' ≡ cond (passed given.reply) (numbers_of side given.rec) ns)
+      → Worked (surface.handed side ns (hosted_take BENCHES side ns store samples model (length out) (length answers)))
       (number, ns') store' (out ∷ answers ∷ []) left
-  unfolding hostedTake
+  unfolding hosted_take
   handed h =
       rw (← read)
       (record {
@@ -51,7 +51,7 @@ hand-back-requires c κs =
     let d = c.before.before.before.before.before.before.before in
     let r = d.before.before.before.before in
     let a = r.before.before.before.before.before.before.before.before.args in
-    hands-back a.side _ _ a.store.now a.piece.now a.model.now a.out.now a.answers.now
+    hands_back a.side _ _ a.store.now a.piece.now a.model.now a.out.now a.answers.now
     r.record-in.ensures d.take.ensures
 
 returns : tie.Need-returns
@@ -64,8 +64,8 @@ returns c =
     r.record-in.ensures d.take.ensures
     h.hand-back.ensures
 
-pub tuppence-take-spec : {M : Type 1} → statement M
-tuppence-take-spec =
+pub tuppence_take_spec : {M : Type 1} → statement M
+tuppence_take_spec =
     tie.close
     (tie.spec
     (λ c κs. search rules)  -- record-in-requires

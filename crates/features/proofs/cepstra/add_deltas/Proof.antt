@@ -6,7 +6,7 @@ use Rattle.rules.specs.F32.{part}
 use Rattle.rules.specs.Place.{put}
 use Rattle.features.specs.Cepstra.{back, smoothed, slope, bend, deltas, variability}
 use Rattle.features.specs.Features.{laid}
-use Rattle.features.proofs.Lengths.{length-deltas}
+use Rattle.features.proofs.Lengths.{length_deltas}
 use Rattle.features.proofs.Places.{place, laid_out}
 use Rattle.features.proofs.cepstra.add_deltas.Statement.{statement}
 use Rattle.features.proofs.cepstra.add_deltas.Tie as tie
@@ -20,7 +20,7 @@ together : (l a b d mem : List Float) (index c1 c2 : ℕ) (v : Float) → length
 unfolding laid
 together l a b d mem index c1 c2 v all one two p q r s =
     let six : (of : Float → Float → Float → Float) → length (deltas of mem index (back index 1) (back index 2)) ≡ 6
-    = λ of. length-deltas of mem index (back index 1) (back index 2) in
+    = λ of. length_deltas of mem index (back index 1) (back index 2) in
     rw (p, q, r, s, one, two) (laid_out l _ _ _ _ all (six smoothed) (six slope) (six bend))
 
 returns : tie.Need-returns
@@ -40,8 +40,8 @@ returns c =
     first.delta-rows.ensures second.delta-rows2.ensures third.delta-rows3.ensures
     c.spectral-variability.ensures
 
-pub add-deltas-spec : {M : Type 1} → statement M
-add-deltas-spec =
+pub add_deltas_spec : {M : Type 1} → statement M
+add_deltas_spec =
     tie.close
     (tie.spec
     (λ c κs. search rules)  -- row-back-requires

@@ -3,8 +3,8 @@ use borrow.Author.Rules.{rules}
 use Rattle.features.proofs.cepstra.combine.Statement.{statement}
 use Rattle.features.proofs.cepstra.combine.Tie as tie
 
-pub combine-spec : {M : Type 1} → statement M
-combine-spec =
+pub combine_spec : {M : Type 1} → statement M
+combine_spec =
     tie.close
     (tie.spec
     (λ c. search rules)  -- enum_told

@@ -2,20 +2,20 @@
 use Prim.Native.Nat.{◌≤◌, ◌-◌}
 use Rattle.rules.proofs.Lists.{Filling, fills}
 use Rattle.features.specs.Cepstra.{cell, deltas}
-use Rattle.features.specs.Private.{deltaOf}
+use Rattle.features.specs.Private.{delta_of}
 use Rattle.features.proofs.cepstra.delta_rows.Statement.{statement}
 use Rattle.features.proofs.cepstra.delta_rows.Tie as tie
 
 abbrev invariant-loop : tie.invariant-loop
 invariant-loop out₀ kind mem c0 c1 c2 i₀ out i =
-    (i ≤ 6) × Filling (λ k. deltaOf kind (cell mem c0 k) (cell mem c1 k) (cell mem c2 k)) out₀ i out
+    (i ≤ 6) × Filling (λ k. delta_of kind (cell mem c0 k) (cell mem c1 k) (cell mem c2 k)) out₀ i out
 
 abbrev decreases-loop : tie.decreases-loop
 decreases-loop out₀ kind mem c0 c1 c2 i₀ out i = 6 - i
 
-pub delta-rows-spec : {M : Type 1} → statement M
+pub delta_rows_spec : {M : Type 1} → statement M
 unfolding deltas
-delta-rows-spec =
+delta_rows_spec =
     tie.close
     (tie.spec
     invariant-loop

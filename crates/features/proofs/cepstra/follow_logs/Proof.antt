@@ -4,28 +4,28 @@ use native.Mathlib.Omega.{arith}
 use Rattle.rules.specs.F32.{at}
 use Rattle.rules.specs.Loop.{loop}
 use Rattle.rules.proofs.Loops.{more}
-use Rattle.rules.proofs.Lists.{Filling, fills, filling-more}
-use Rattle.features.specs.Cepstra.{floorsOf, lyOf, floorStep, floors, followLogs}
+use Rattle.rules.proofs.Lists.{Filling, fills, filling_more}
+use Rattle.features.specs.Cepstra.{floors_of, ly_of, floor_step, floors, follow_logs}
 use Rattle.features.proofs.cepstra.follow_logs.Statement.{statement}
 use Rattle.features.proofs.cepstra.follow_logs.Tie as tie
 
 abbrev invariant-loop : tie.invariant-loop
-invariant-loop ly₀ logs logMax₀ follow₀ i₀ ly logMax follow i =
-    (i ≤ 22) × (floorsOf logMax follow ≡ loop i (floorStep logs) (floorsOf logMax₀ follow₀))
-    × Filling (λ k. lyOf (at logs k) (floors logs k)) ly₀ i ly
+invariant-loop ly₀ logs logMax₀ follow₀ i₀ ly log_max follow i =
+    (i ≤ 22) × (floors_of log_max follow ≡ loop i (floor_step logs) (floors_of logMax₀ follow₀))
+    × Filling (λ k. ly_of (at logs k) (floors logs k)) ly₀ i ly
 
 abbrev decreases-loop : tie.decreases-loop
-decreases-loop ly₀ logs logMax₀ follow₀ i₀ ly logMax follow i = 22 - i
+decreases-loop ly₀ logs logMax₀ follow₀ i₀ ly log_max follow i = 22 - i
 
 loop-again : tie.Need-loop-preserved invariant-loop decreases-loop
-unfolding floorStep
+unfolding floor_step
 loop-again c =
     let l = c.before.before.before.before.before.before.loop in
-    (omega arith, more _ _ _ l.invariant.1 (cc), filling-more _ _ _ l.invariant.2 (omega arith) (rw (← l.invariant.1) (cc)))
+    (omega arith, more _ _ _ l.invariant.1 (cc), filling_more _ _ _ l.invariant.2 (omega arith) (rw (← l.invariant.1) (cc)))
 
-pub follow-logs-spec : {M : Type 1} → statement M
-unfolding followLogs
-follow-logs-spec =
+pub follow_logs_spec : {M : Type 1} → statement M
+unfolding follow_logs
+follow_logs_spec =
     tie.close
     (tie.spec
     invariant-loop

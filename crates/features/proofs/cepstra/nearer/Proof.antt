@@ -4,8 +4,8 @@ use borrow.Author.Tests.{eq-eqb, ne_eqb}
 use Rattle.features.proofs.cepstra.nearer.Statement.{statement}
 use Rattle.features.proofs.cepstra.nearer.Tie as tie
 
-pub nearer-spec : {M : Type 1} → statement M
-nearer-spec = tie.close
+pub nearer_spec : {M : Type 1} → statement M
+nearer_spec = tie.close
     (tie.spec
     (λ c. rw (eq-eqb _ _ c.if1.true))  -- returns
     (λ c κs. search rules)  -- row-distance-requires

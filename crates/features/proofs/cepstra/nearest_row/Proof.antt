@@ -2,19 +2,19 @@
 use Rattle.rules.proofs.Common.{◌-◌, ◌≤◌, ◌≡◌}
 use Rattle.rules.specs.Loop.{loop}
 use Rattle.rules.proofs.Loops.{turns}
-use Rattle.features.specs.Cepstra.{nearestStep, nearest}
+use Rattle.features.specs.Cepstra.{nearest_step, nearest}
 use Rattle.features.proofs.cepstra.nearest_row.Statement.{statement}
 use Rattle.features.proofs.cepstra.nearest_row.Tie as tie
 
 abbrev invariant-loop : tie.invariant-loop
-invariant-loop mem i least₀ j₀ least j = (j ≤ 8) × (least ≡ loop j (nearestStep mem i) least₀)
+invariant-loop mem i least₀ j₀ least j = (j ≤ 8) × (least ≡ loop j (nearest_step mem i) least₀)
 
 abbrev decreases-loop : tie.decreases-loop
 decreases-loop mem i least₀ j₀ least j = 8 - j
 
-pub nearest-row-spec : {M : Type 1} → statement M
+pub nearest_row_spec : {M : Type 1} → statement M
 unfolding nearest
-nearest-row-spec =
+nearest_row_spec =
     tie.close
     (tie.spec
     invariant-loop

@@ -20,8 +20,8 @@ returns c =
     written mem _ start.args.ceps.now at (at + 22 - at) (omega arith)
     (left c.before.before.copy.ensures (simp (length-take, length-drop) (omega arith)))
 
-pub remember-spec : {M : Type 1} → statement M
-remember-spec =
+pub remember_spec : {M : Type 1} → statement M
+remember_spec =
     tie.close
     (tie.spec
     (λ c. search rules)  -- mul-at

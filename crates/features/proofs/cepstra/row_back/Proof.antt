@@ -6,9 +6,9 @@ use Rattle.features.specs.Cepstra.{back}
 use Rattle.features.proofs.cepstra.row_back.Statement.{statement}
 use Rattle.features.proofs.cepstra.row_back.Tie as tie
 
-pub row-back-spec : {M : Type 1} → statement M
+pub row_back_spec : {M : Type 1} → statement M
 unfolding back
-row-back-spec = tie.close
+row_back_spec = tie.close
     (tie.spec
     (λ c. search rules)  -- add-result
     (λ c. search rules)  -- sub-result

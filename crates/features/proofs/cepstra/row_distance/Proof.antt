@@ -2,19 +2,19 @@
 use Rattle.rules.proofs.Common.{◌-◌, ◌≤◌, ◌≡◌}
 use Rattle.rules.specs.Loop.{loop}
 use Rattle.rules.proofs.Loops.{turns}
-use Rattle.features.specs.Cepstra.{distStep, cepstralDistance}
+use Rattle.features.specs.Cepstra.{dist_step, cepstral_distance}
 use Rattle.features.proofs.cepstra.row_distance.Statement.{statement}
 use Rattle.features.proofs.cepstra.row_distance.Tie as tie
 
 abbrev invariant-loop : tie.invariant-loop
-invariant-loop mem i j dist₀ k₀ dist k = (k ≤ 22) × (dist ≡ loop k (distStep mem i j) dist₀)
+invariant-loop mem i j dist₀ k₀ dist k = (k ≤ 22) × (dist ≡ loop k (dist_step mem i j) dist₀)
 
 abbrev decreases-loop : tie.decreases-loop
 decreases-loop mem i j dist₀ k₀ dist k = 22 - k
 
-pub row-distance-spec : {M : Type 1} → statement M
-unfolding cepstralDistance
-row-distance-spec =
+pub row_distance_spec : {M : Type 1} → statement M
+unfolding cepstral_distance
+row_distance_spec =
     tie.close
     (tie.spec
     invariant-loop

@@ -3,19 +3,19 @@ use Rattle.rules.proofs.Common.{◌-◌, ◌≤◌, ◌≡◌}
 use native.Mathlib.Omega.{arith}
 use Rattle.rules.specs.Loop.{loop}
 use Rattle.rules.proofs.Loops.{turns, ended}
-use Rattle.features.specs.Cepstra.{variabilityStep, variability}
+use Rattle.features.specs.Cepstra.{variability_step, variability}
 use Rattle.features.proofs.cepstra.spectral_variability.Statement.{statement}
 use Rattle.features.proofs.cepstra.spectral_variability.Tie as tie
 
 abbrev invariant-loop : tie.invariant-loop
-invariant-loop mem sum₀ i₀ sum i = (i ≤ 8) × (sum ≡ loop i (variabilityStep mem) sum₀)
+invariant-loop mem sum₀ i₀ sum i = (i ≤ 8) × (sum ≡ loop i (variability_step mem) sum₀)
 
 abbrev decreases-loop : tie.decreases-loop
 decreases-loop mem sum₀ i₀ sum i = 8 - i
 
-pub spectral-variability-spec : {M : Type 1} → statement M
+pub spectral_variability_spec : {M : Type 1} → statement M
 unfolding variability
-spectral-variability-spec =
+spectral_variability_spec =
     tie.close
     (tie.spec
     invariant-loop

@@ -2,19 +2,19 @@
 use mathlib.Core.Path.{◌∙◌}
 use borrow.Author.Rules.{rules}
 use Rattle.rules.proofs.Refusals.{left}
-use Rattle.features.specs.Features.{normalisedCorr}
+use Rattle.features.specs.Features.{normalised_corr}
 use Rattle.features.proofs.heard.correlate.Statement.{statement}
 use Rattle.features.proofs.heard.correlate.Tie as tie
 
 returns : tie.Need-returns
-unfolding normalisedCorr
+unfolding normalised_corr
 returns c =
     let divides = c.before.before in
     let sums = divides.before.before.before.before in
     divides.normalise.ensures ∙ rw (left sums.compute-band-corr.ensures (search rules))
 
-pub correlate-spec : {M : Type 1} → statement M
-correlate-spec =
+pub correlate_spec : {M : Type 1} → statement M
+correlate_spec =
     tie.close
     (tie.spec
     (λ c κs. search rules)  -- compute-band-corr-requires

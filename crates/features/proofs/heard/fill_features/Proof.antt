@@ -4,9 +4,9 @@ use borrow.Author.Rules.{rules}
 use Rattle.rules.specs.F32.{part}
 use Rattle.rules.specs.Place.{put}
 use Rattle.features.specs.Cepstra.{row, cepstrum}
-use Rattle.features.specs.Features.{pitchFeatures, withCepstrum, laid, featuresOf}
-use Rattle.features.proofs.Lengths.{length-pitch, length-cepstrum}
-use Rattle.features.proofs.Places.{place, ceps-read, ceps-stays, pitch-stays}
+use Rattle.features.specs.Features.{pitch_features, with_cepstrum, laid, features_of}
+use Rattle.features.proofs.Lengths.{length_pitch, length_cepstrum}
+use Rattle.features.proofs.Places.{place, ceps_read, ceps_stays, pitch_stays}
 use Rattle.features.proofs.heard.fill_features.Statement.{statement}
 use Rattle.features.proofs.heard.fill_features.Tie as tie
 
@@ -15,17 +15,17 @@ abbrev plain : List Float → List Float → List Float → List Float
 plain l pitch ceps = put (place 0 22) (put (place 34 7) l pitch) ceps
 
 together : (l pitch ceps new out exp : List Float) (lag : Float) (logs mem : List Float) (index : ℕ) → length l ≡ 42
-    → pitch ≡ pitchFeatures exp lag
+    → pitch ≡ pitch_features exp lag
     → ceps ≡ cepstrum logs
     → new ≡ put (row index) mem (part 0 22 (plain l pitch ceps))
     → out ≡ laid (part 6 22 (plain l pitch ceps)) (part 34 41 (plain l pitch ceps)) new index
-    → (out ≡ featuresOf exp lag logs mem index) × (new ≡ withCepstrum logs mem index)
-unfolding featuresOf withCepstrum
+    → (out ≡ features_of exp lag logs mem index) × (new ≡ with_cepstrum logs mem index)
+unfolding features_of with_cepstrum
 together l pitch ceps new out exp lag logs mem index all p q n o =
-    let seven : length pitch ≡ 7 = rw p (length-pitch exp lag) in
-    let bands : length ceps ≡ 22 = rw q (length-cepstrum logs) in
-    let new_is : new ≡ withCepstrum logs mem index = n ∙ rw (ceps-read l pitch ceps all seven bands, q) in
-    (o ∙ rw (ceps-stays l pitch ceps all seven bands, pitch-stays l pitch ceps all seven bands, p, q, new_is), new_is)
+    let seven : length pitch ≡ 7 = rw p (length_pitch exp lag) in
+    let bands : length ceps ≡ 22 = rw q (length_cepstrum logs) in
+    let new_is : new ≡ with_cepstrum logs mem index = n ∙ rw (ceps_read l pitch ceps all seven bands, q) in
+    (o ∙ rw (ceps_stays l pitch ceps all seven bands, pitch_stays l pitch ceps all seven bands, p, q, new_is), new_is)
 
 returns : tie.Need-returns
 unfolding put
@@ -41,8 +41,8 @@ returns c =
     start.requires.0 finds.pitch-features.ensures transforms.cepstrum-of.ensures remembers.remember.ensures
     differs.add-deltas.ensures
 
-pub fill-features-spec : {M : Type 1} → statement M
-fill-features-spec =
+pub fill_features_spec : {M : Type 1} → statement M
+fill_features_spec =
     tie.close
     (tie.spec
     (λ c. search rules)  -- sub-pitch-features

@@ -2,7 +2,7 @@
 use Rattle.rules.proofs.Common.{◌-◌, ◌≤◌, binary32, nan}
 use native.Mathlib.Omega.{arith}
 use Rattle.rules.specs.F32.{◌⊕◌, ◌⊗◌, ◌⊘◌, at, f32}
-use Rattle.rules.proofs.Lists.{Filling, fills, filling-more, filling-ahead}
+use Rattle.rules.proofs.Lists.{Filling, fills, filling_more, filling_ahead}
 use Rattle.numbers.specs.Root.{root}
 use Rattle.features.specs.Features.{normalised}
 use Rattle.features.proofs.heard.normalise.Statement.{statement}
@@ -19,13 +19,13 @@ loop-again : tie.Need-loop-preserved invariant-loop decreases-loop
 loop-again c =
     let l = c.before.before.before.before.before.loop in (
       omega arith,
-      filling-more _ _ _ l.invariant.1 (omega arith)
-          (rw (filling-ahead _ _ l.i l.i nan l.invariant.1 (omega arith), c.sqrt.ensures)),
+      filling_more _ _ _ l.invariant.1 (omega arith)
+          (rw (filling_ahead _ _ l.i l.i nan l.invariant.1 (omega arith), c.sqrt.ensures)),
     )
 
-pub normalise-spec : {M : Type 1} → statement M
+pub normalise_spec : {M : Type 1} → statement M
 unfolding normalised
-normalise-spec =
+normalise_spec =
     tie.close
     (tie.spec
     invariant-loop

@@ -7,8 +7,8 @@ use lib.ListN.{drop_of_length-le}
 use lib.Seq.{sets, sets-eq}
 use Rattle.rules.specs.F32.{◌⊖◌, ◌⊗◌, at, f32}
 use Rattle.rules.proofs.Refusals.{left}
-use Rattle.bands.specs.Dct.{dctOf}
-use Rattle.features.specs.Features.{pitchFeatures}
+use Rattle.bands.specs.Dct.{dct_of}
+use Rattle.features.specs.Features.{pitch_features}
 use Rattle.features.proofs.heard.pitch_features.Statement.{statement}
 use Rattle.features.proofs.heard.pitch_features.Tie as tie
 
@@ -18,12 +18,12 @@ whole vs out n l =
     sets-eq vs out 0 (omega arith)
     ∙ ap (λ (t : List Float). vs ++ t) (drop_of_length-le out {i = 0 + length vs} (omega arith)) ∙ append-nil vs
 
-stored : (out tmp exp : List Float) (lag : Float) → length out ≡ 7 → tmp ≡ dctOf exp
+stored : (out tmp exp : List Float) (lag : Float) → length out ≡ 7 → tmp ≡ dct_of exp
     → sets out 0 ((at tmp 0 ⊖ f32 0x3FA66666) ∷ (at tmp 1 ⊖ f32 0x3F666666) ∷ at tmp 2 ∷ at tmp 3 ∷ at tmp 4 ∷ at tmp 5
     ∷ (f32 0x3C23D70A ⊗ (lag ⊖ f32 0x43960000)) ∷ [])
-    ≡ pitchFeatures exp lag
-unfolding pitchFeatures
-stored out tmp exp lag l e = rw e (whole (pitchFeatures exp lag) out refl l)
+    ≡ pitch_features exp lag
+unfolding pitch_features
+stored out tmp exp lag l e = rw e (whole (pitch_features exp lag) out refl l)
 
 returns : tie.Need-returns
 returns c =
@@ -32,8 +32,8 @@ returns c =
     stored start.args.out.now _ start.args.exp.now start.args.lag start.requires.0
     (left transforms.dct.ensures (search rules))
 
-pub pitch-features-spec : {M : Type 1} → statement M
-pitch-features-spec =
+pub pitch_features_spec : {M : Type 1} → statement M
+pitch_features_spec =
     tie.close
     (tie.spec
     (λ c. search rules)  -- slice-aggregate-dct

@@ -2,9 +2,9 @@
 use Rattle.rules.proofs.Common.{◌-◌, ◌≤◌, nan}
 use native.Mathlib.Omega.{arith}
 use Rattle.rules.specs.F32.{◌⊕◌, ◌⊗◌, at}
-use Rattle.rules.proofs.Lists.{Filling, fills, filling-more, filling-ahead}
+use Rattle.rules.proofs.Lists.{Filling, fills, filling_more, filling_ahead}
 use Rattle.rules.specs.Spectrum.{bin_of}
-use Rattle.features.specs.Pitch.{pitchAdded}
+use Rattle.features.specs.Pitch.{pitch_added}
 use Rattle.features.proofs.pitch.add_pitch.Statement.{statement}
 use Rattle.features.proofs.pitch.add_pitch.Tie as tie
 
@@ -18,12 +18,12 @@ loop-again : tie.Need-loop-preserved invariant-loop decreases-loop
 loop-again c =
     let l = c.before.before.before.before.loop in (
       omega arith,
-      filling-more _ _ _ l.invariant.1 (omega arith) (rw (filling-ahead _ _ l.n l.n nan l.invariant.1 (omega arith))),
+      filling_more _ _ _ l.invariant.1 (omega arith) (rw (filling_ahead _ _ l.n l.n nan l.invariant.1 (omega arith))),
     )
 
-pub add-pitch-spec : {M : Type 1} → statement M
-unfolding pitchAdded
-add-pitch-spec =
+pub add_pitch_spec : {M : Type 1} → statement M
+unfolding pitch_added
+add_pitch_spec =
     tie.close
     (tie.spec
     invariant-loop

@@ -4,9 +4,9 @@ use Rattle.features.specs.Pitch.{ratio}
 use Rattle.features.proofs.pitch.energy_ratio.Statement.{statement}
 use Rattle.features.proofs.pitch.energy_ratio.Tie as tie
 
-pub energy-ratio-spec : {M : Type 1} → statement M
+pub energy_ratio_spec : {M : Type 1} → statement M
 unfolding ratio
-energy-ratio-spec = tie.close
+energy_ratio_spec = tie.close
     (tie.spec
     (λ c κs. search rules)  -- sqrt-requires
     (λ c. c.sqrt.ensures))  -- returns

@@ -2,15 +2,15 @@
 use Rattle.rules.proofs.Common.{List, ◌≡◌, ◌∙◌, Float}
 use borrow.Author.Rules.{rules}
 use Rattle.rules.proofs.Refusals.{left}
-use Rattle.bands.specs.Bands.{bandGain}
-use Rattle.features.specs.Pitch.{pitchGains, pitchAdded, restored, pitchFiltered}
+use Rattle.bands.specs.Bands.{band_gain}
+use Rattle.features.specs.Pitch.{pitch_gains, pitch_added, restored, pitch_filtered}
 use Rattle.features.proofs.pitch.filter.Statement.{statement}
 use Rattle.features.proofs.pitch.filter.Tie as tie
 
 together : (x p gains exp ex ep r rf y out : List Float)
-    → r ≡ pitchGains gains exp ex ep → rf ≡ bandGain r → y ≡ pitchAdded x p rf → out ≡ restored y ex
-    → out ≡ pitchFiltered x p gains exp ex ep
-unfolding pitchFiltered
+    → r ≡ pitch_gains gains exp ex ep → rf ≡ band_gain r → y ≡ pitch_added x p rf → out ≡ restored y ex
+    → out ≡ pitch_filtered x p gains exp ex ep
+unfolding pitch_filtered
 together x p gains exp ex ep r rf y out a b c d = cc
 
 returns : tie.Need-returns
@@ -25,8 +25,8 @@ returns c =
     (record { bins = start.requires.1.1; from = divides.gains-of.auto.0 ∙ start.requires.1.0 }))
     adds.add-pitch.ensures restores.restore.ensures
 
-pub filter-spec : {M : Type 1} → statement M
-filter-spec =
+pub filter_spec : {M : Type 1} → statement M
+filter_spec =
     tie.close
     (tie.spec
     (λ c κs. search rules)  -- gains-of-requires

@@ -2,20 +2,20 @@
 use Prim.Native.Nat.{◌≤◌, ◌-◌}
 use Rattle.rules.specs.F32.{at}
 use Rattle.rules.proofs.Lists.{Filling, fills}
-use Rattle.features.specs.Pitch.{bandPitchGain, pitchGains}
+use Rattle.features.specs.Pitch.{band_pitch_gain, pitch_gains}
 use Rattle.features.proofs.pitch.gains_of.Statement.{statement}
 use Rattle.features.proofs.pitch.gains_of.Tie as tie
 
 abbrev invariant-loop : tie.invariant-loop
 invariant-loop r₀ exp gains ex ep i₀ r i =
-    (i ≤ 22) × Filling (λ k. bandPitchGain (at gains k) (at exp k) (at ex k) (at ep k)) r₀ i r
+    (i ≤ 22) × Filling (λ k. band_pitch_gain (at gains k) (at exp k) (at ex k) (at ep k)) r₀ i r
 
 abbrev decreases-loop : tie.decreases-loop
 decreases-loop r₀ exp gains ex ep i₀ r i = 22 - i
 
-pub gains-of-spec : {M : Type 1} → statement M
-unfolding pitchGains
-gains-of-spec =
+pub gains_of_spec : {M : Type 1} → statement M
+unfolding pitch_gains
+gains_of_spec =
     tie.close
     (tie.spec
     invariant-loop

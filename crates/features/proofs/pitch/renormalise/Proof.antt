@@ -2,7 +2,7 @@
 use Rattle.rules.proofs.Common.{◌-◌, ◌≤◌, nan}
 use native.Mathlib.Omega.{arith}
 use Rattle.rules.specs.F32.{at}
-use Rattle.rules.proofs.Lists.{Filling, fills, filling-more, filling-ahead}
+use Rattle.rules.proofs.Lists.{Filling, fills, filling_more, filling_ahead}
 use Rattle.features.specs.Pitch.{ratio, renormalised}
 use Rattle.features.proofs.pitch.renormalise.Statement.{statement}
 use Rattle.features.proofs.pitch.renormalise.Tie as tie
@@ -17,13 +17,13 @@ loop-again : tie.Need-loop-preserved invariant-loop decreases-loop
 loop-again c =
     let l = c.before.before.before.before.loop in (
       omega arith,
-      filling-more _ _ _ l.invariant.1 (omega arith)
-          (rw (filling-ahead _ _ l.i l.i nan l.invariant.1 (omega arith)) at c.energy-ratio.ensures),
+      filling_more _ _ _ l.invariant.1 (omega arith)
+          (rw (filling_ahead _ _ l.i l.i nan l.invariant.1 (omega arith)) at c.energy-ratio.ensures),
     )
 
-pub renormalise-spec : {M : Type 1} → statement M
+pub renormalise_spec : {M : Type 1} → statement M
 unfolding renormalised
-renormalise-spec =
+renormalise_spec =
     tie.close
     (tie.spec
     invariant-loop

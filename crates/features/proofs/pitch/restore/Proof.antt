@@ -2,12 +2,12 @@
 use Rattle.rules.proofs.Common.{List, ◌≡◌, Float}
 use borrow.Author.Rules.{rules}
 use Rattle.rules.proofs.Refusals.{left}
-use Rattle.bands.specs.Bands.{bandCorr, bandGain}
+use Rattle.bands.specs.Bands.{band_corr, band_gain}
 use Rattle.features.specs.Pitch.{renormalised, applied, restored}
 use Rattle.features.proofs.pitch.restore.Statement.{statement}
 use Rattle.features.proofs.pitch.restore.Tie as tie
 
-together : (x ex e r rf out : List Float) → e ≡ bandCorr x x → r ≡ renormalised ex e → rf ≡ bandGain r
+together : (x ex e r rf out : List Float) → e ≡ band_corr x x → r ≡ renormalised ex e → rf ≡ band_gain r
     → out ≡ applied x rf → out ≡ restored x ex
 unfolding restored
 together x ex e r rf out a b c d = cc
@@ -24,8 +24,8 @@ returns c =
     (left spreads.interp-band-gain.ensures (search rules))
     (left applies.apply-gains.ensures (search rules))
 
-pub restore-spec : {M : Type 1} → statement M
-restore-spec =
+pub restore_spec : {M : Type 1} → statement M
+restore_spec =
     tie.close
     (tie.spec
     (λ c κs. search rules)  -- compute-band-corr-requires

@@ -1,11 +1,11 @@
 -- `fft::complex::put` meets its contract. Assumes nothing.
 use borrow.Author.Rules.{rules}
-use Rattle.fft.specs.Private.{putComplex}
+use Rattle.fft.specs.Private.{put_complex}
 use Rattle.fft.proofs.complex.put.Statement.{statement}
 use Rattle.fft.proofs.complex.put.Tie as tie
 
 returns : tie.Need-returns
-unfolding putComplex
+unfolding put_complex
 returns c = cc
 
 pub put_spec : {M : Type 1} → statement M

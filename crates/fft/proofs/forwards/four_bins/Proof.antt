@@ -1,12 +1,12 @@
 -- `fft::forwards::four_bins` meets its contract. Assumes nothing.
 use borrow.Author.Rules.{rules}
 use native.Mathlib.Omega.{arith}
-use Rattle.fft.proofs.Ends.{bins-filled}
+use Rattle.fft.proofs.Ends.{bins_filled}
 use Rattle.fft.proofs.forwards.four_bins.Statement.{statement}
 use Rattle.fft.proofs.forwards.four_bins.Tie as tie
 
-pub four-bins-spec : {M : Type 1} → statement M
-four-bins-spec =
+pub four_bins_spec : {M : Type 1} → statement M
+four_bins_spec =
     tie.close
     (tie.spec
     (λ c κs. search rules)  -- bin-requires
@@ -24,7 +24,7 @@ four-bins-spec =
     (λ c κs. search rules)  -- put-four-requires-2
     (λ c. search rules)  -- same-length
     (λ c.
-    bins-filled
+    bins_filled
     c.before.before.before.before.before.before.before.before.before.before.before.before.before.args.c.now
     c.before.before.before.before.before.before.before.before.before.before.before.before.before.args.z.now
     c.before.before.before.before.before.before.before.before.before.before.before.before.before.args.k

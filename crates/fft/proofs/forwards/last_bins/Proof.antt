@@ -1,12 +1,12 @@
 -- `fft::forwards::last_bins` meets its contract. Assumes nothing.
 use borrow.Author.Rules.{rules}
 use native.Mathlib.Omega.{arith}
-use Rattle.fft.proofs.Ends.{bins-filled}
+use Rattle.fft.proofs.Ends.{bins_filled}
 use Rattle.fft.proofs.forwards.last_bins.Statement.{statement}
 use Rattle.fft.proofs.forwards.last_bins.Tie as tie
 
-pub last-bins-spec : {M : Type 1} → statement M
-last-bins-spec =
+pub last_bins_spec : {M : Type 1} → statement M
+last_bins_spec =
     tie.close
     (tie.spec
     (λ c κs. search rules)  -- any-bin-requires
@@ -17,7 +17,7 @@ last-bins-spec =
     (λ c κs. search rules)  -- put-four-requires-2
     (λ c. search rules)  -- same-length
     (λ c.
-    bins-filled
+    bins_filled
     c.before.before.before.before.before.before.before.before.before.before.before.before.before.args.c.now
     c.before.before.before.before.before.before.before.before.before.before.before.before.before.args.z.now 477 (omega arith) (omega arith)
     c.before.before.before.before.before.before.before.before.before.before.before.before.before.requires

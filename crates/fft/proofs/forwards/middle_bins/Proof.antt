@@ -3,13 +3,13 @@ use borrow.Author.Rules.{rules}
 use native.Mathlib.Omega.{arith}
 use Rattle.rules.proofs.Common.{◌+◌, ◌-◌, ◌*◌, ◌≤◌, ◌≡◌}
 use Rattle.fft.specs.Single.{single, of}
-use Rattle.fft.specs.Fast.{numberOut}
+use Rattle.fft.specs.Fast.{number_out}
 use Rattle.fft.specs.Private.{Filled}
 use Rattle.fft.proofs.forwards.middle_bins.Statement.{statement}
 use Rattle.fft.proofs.forwards.middle_bins.Tie as tie
 
 abbrev invariant-loop : tie.invariant-loop
-invariant-loop out₀ c z b₀ out b = (b ≤ 119) × Filled 961 (numberOut single (of c) z) (8 * b + 1) out
+invariant-loop out₀ c z b₀ out b = (b ≤ 119) × Filled 961 (number_out single (of c) z) (8 * b + 1) out
 
 abbrev decreases-loop : tie.decreases-loop
 decreases-loop out₀ c z b₀ out b = 119 - b
@@ -23,8 +23,8 @@ loop-again c =
 returns : tie.Need-returns invariant-loop decreases-loop
 returns c = let l = c.before.loop in let e : 8 * l.b + 1 ≡ 953 = omega arith in rw e at l.invariant.1
 
-pub middle-bins-spec : {M : Type 1} → statement M
-middle-bins-spec =
+pub middle_bins_spec : {M : Type 1} → statement M
+middle_bins_spec =
     tie.close
     (tie.spec
     invariant-loop

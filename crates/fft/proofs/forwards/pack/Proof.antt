@@ -3,9 +3,9 @@ use borrow.Author.Rules.{rules}
 use native.Mathlib.Omega.{arith}
 use Rattle.rules.proofs.Common.{◌+◌, ◌-◌, ◌*◌, ◌≤◌, ◌≡◌, refl}
 use Rattle.fft.specs.Single.{single}
-use Rattle.fft.specs.Fast.{pair, asComplex}
+use Rattle.fft.specs.Fast.{pair, as_complex}
 use Rattle.fft.specs.Private.{Laid}
-use Rattle.fft.proofs.Laying.{begun, laid-single}
+use Rattle.fft.proofs.Laying.{begun, laid_single}
 use Rattle.fft.proofs.forwards.pack.Statement.{statement}
 use Rattle.fft.proofs.forwards.pack.Tie as tie
 
@@ -22,13 +22,13 @@ loop-again c =
     (omega arith, rw e c.before.before.pack-block.ensures)
 
 returns : tie.Need-returns invariant-loop decreases-loop
-unfolding asComplex
+unfolding as_complex
 returns c = let l = c.before.loop in
-    laid-single (pair single c.before.before.before.before.args.x.now) (4 * l.b) (omega arith) (omega arith)
+    laid_single (pair single c.before.before.before.before.args.x.now) (4 * l.b) (omega arith) (omega arith)
     l.invariant.1
 
-pub pack-spec : {M : Type 1} → statement M
-pack-spec =
+pub pack_spec : {M : Type 1} → statement M
+pack_spec =
     tie.close
     (tie.spec
     invariant-loop

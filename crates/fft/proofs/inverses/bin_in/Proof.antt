@@ -3,12 +3,12 @@ use borrow.Author.Rules.{rules}
 use native.Mathlib.Omega.{arith}
 use mathlib.Core.Path.{sym, ap}
 use Rattle.fft.specs.Private.{cx}
-use Rattle.fft.proofs.Ends.{bin-in-mid}
+use Rattle.fft.proofs.Ends.{bin_in_mid}
 use Rattle.fft.proofs.inverses.bin_in.Statement.{statement}
 use Rattle.fft.proofs.inverses.bin_in.Tie as tie
 
-pub bin-in-spec : {M : Type 1} → statement M
-bin-in-spec =
+pub bin_in_spec : {M : Type 1} → statement M
+bin_in_spec =
     tie.close
     (tie.spec
     (λ c. search rules)  -- mul-t4
@@ -20,5 +20,5 @@ bin-in-spec =
     (λ c. search rules)  -- shared-slice-read-t12
     (λ c.
     ap cx
-    (sym (bin-in-mid c.before.before.args.x.now c.before.before.args.k
+    (sym (bin_in_mid c.before.before.args.x.now c.before.before.args.k
     (omega (arith, c.before.before.requires)) (omega (arith, c.before.before.requires))))))  -- returns

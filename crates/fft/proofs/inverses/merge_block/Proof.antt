@@ -1,12 +1,12 @@
 -- `fft::inverses::merge_block` meets its contract. Assumes nothing.
 use borrow.Author.Rules.{rules}
 use native.Mathlib.Omega.{arith}
-use Rattle.fft.proofs.Laying.{laid-ones}
+use Rattle.fft.proofs.Laying.{laid_ones}
 use Rattle.fft.proofs.inverses.merge_block.Statement.{statement}
 use Rattle.fft.proofs.inverses.merge_block.Tie as tie
 
-pub merge-block-spec : {M : Type 1} → statement M
-merge-block-spec =
+pub merge_block_spec : {M : Type 1} → statement M
+merge_block_spec =
     tie.close
     (tie.spec
     (λ c κs. search rules)  -- merged-requires
@@ -18,7 +18,7 @@ merge-block-spec =
     (λ c κs. search rules)  -- merged-requires-4
     (λ c κs. search rules)  -- put-requires
     (λ c. search rules)  -- same-length
-    (λ c. laid-ones _ c.before.before.before.before.before.before.before.before.before.before.args.i
+    (λ c. laid_ones _ c.before.before.before.before.before.before.before.before.before.before.args.i
     (omega (arith, c.before.before.before.before.before.before.before.before.before.before.requires.1))
     c.before.before.before.before.before.before.before.before.before.before.requires.0
     c.before.before.before.before.before.before.before.merged.ensures

@@ -3,14 +3,14 @@ use borrow.Author.Rules.{rules}
 use native.Mathlib.Omega.{arith}
 use Rattle.rules.proofs.Common.{◌+◌, ◌-◌, ◌*◌, ◌≤◌, ◌≡◌}
 use Rattle.fft.specs.Single.{single, of}
-use Rattle.fft.specs.Fast.{mergedAt, mergedOf}
+use Rattle.fft.specs.Fast.{merged_at, merged_of}
 use Rattle.fft.specs.Private.{Laid}
-use Rattle.fft.proofs.Laying.{laid-single}
+use Rattle.fft.proofs.Laying.{laid_single}
 use Rattle.fft.proofs.inverses.other_blocks.Statement.{statement}
 use Rattle.fft.proofs.inverses.other_blocks.Tie as tie
 
 abbrev invariant-loop : tie.invariant-loop
-invariant-loop out₀ c x b₀ out b = (b ≤ 119) × Laid 1 480 (λ j k. mergedAt single (of c) x j) (4 * b + 4) out
+invariant-loop out₀ c x b₀ out b = (b ≤ 119) × Laid 1 480 (λ j k. merged_at single (of c) x j) (4 * b + 4) out
 
 abbrev decreases-loop : tie.decreases-loop
 decreases-loop out₀ c x b₀ out b = 119 - b
@@ -22,13 +22,13 @@ loop-again c =
     (omega arith, rw e c.before.before.merge-block.ensures)
 
 returns : tie.Need-returns invariant-loop decreases-loop
-unfolding mergedOf
+unfolding merged_of
 returns c = let l = c.before.loop in
-    laid-single (mergedAt single (of c.before.before.before.before.args.c.now)
+    laid_single (merged_at single (of c.before.before.before.before.args.c.now)
     c.before.before.before.before.args.x.now) (4 * l.b + 4) (omega arith) (omega arith) l.invariant.1
 
-pub other-blocks-spec : {M : Type 1} → statement M
-other-blocks-spec =
+pub other_blocks_spec : {M : Type 1} → statement M
+other_blocks_spec =
     tie.close
     (tie.spec
     invariant-loop

@@ -5,7 +5,7 @@ use native.Mathlib.Omega.{arith}
 use Rattle.fft.specs.Fast.{row2}
 use Rattle.fft.specs.Single.{single, of}
 use Rattle.fft.specs.Private.{Laid}
-use Rattle.fft.proofs.Laying.{begun, laid-all}
+use Rattle.fft.proofs.Laying.{begun, laid_all}
 use Rattle.fft.proofs.stages.stage2.Statement.{statement}
 use Rattle.fft.proofs.stages.stage2.Tie as tie
 
@@ -24,10 +24,10 @@ loop-again c =
 
 returns : tie.Need-returns invariant-loop decreases-loop
 returns c = let l = c.before.loop in
-    laid-all 2 240 _ refl (omega arith) (16 * l.b) (omega arith) (omega arith) l.invariant.1
+    laid_all 2 240 _ refl (omega arith) (16 * l.b) (omega arith) (omega arith) l.invariant.1
 
-pub stage2-spec : {M : Type 1} → statement M
-stage2-spec =
+pub stage2_spec : {M : Type 1} → statement M
+stage2_spec =
     tie.close
     (tie.spec
     invariant-loop

@@ -5,7 +5,7 @@ use native.Mathlib.Omega.{arith}
 use Rattle.fft.specs.Fast.{row3}
 use Rattle.fft.specs.Single.{single, of}
 use Rattle.fft.specs.Private.{Laid}
-use Rattle.fft.proofs.Laying.{begun, laid-all}
+use Rattle.fft.proofs.Laying.{begun, laid_all}
 use Rattle.fft.proofs.stages.stage3.Statement.{statement}
 use Rattle.fft.proofs.stages.stage3.Tie as tie
 
@@ -23,10 +23,10 @@ loop-again c =
 
 returns : tie.Need-returns invariant-loop decreases-loop
 returns c = let l = c.before.loop in
-    laid-all 3 160 _ refl (omega arith) (4 * l.b) (omega arith) (omega arith) l.invariant.1
+    laid_all 3 160 _ refl (omega arith) (4 * l.b) (omega arith) (omega arith) l.invariant.1
 
-pub stage3-spec : {M : Type 1} → statement M
-stage3-spec =
+pub stage3_spec : {M : Type 1} → statement M
+stage3_spec =
     tie.close
     (tie.spec
     invariant-loop

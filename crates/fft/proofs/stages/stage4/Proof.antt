@@ -5,7 +5,7 @@ use native.Mathlib.Omega.{arith}
 use Rattle.fft.specs.Fast.{row4}
 use Rattle.fft.specs.Single.{single, of}
 use Rattle.fft.specs.Private.{Laid}
-use Rattle.fft.proofs.Laying.{begun, laid-all}
+use Rattle.fft.proofs.Laying.{begun, laid_all}
 use Rattle.fft.proofs.stages.stage4.Statement.{statement}
 use Rattle.fft.proofs.stages.stage4.Tie as tie
 
@@ -23,10 +23,10 @@ loop-again c =
 
 returns : tie.Need-returns invariant-loop decreases-loop
 returns c = let l = c.before.loop in
-    laid-all 4 120 _ refl (omega arith) (4 * l.b) (omega arith) (omega arith) l.invariant.1
+    laid_all 4 120 _ refl (omega arith) (4 * l.b) (omega arith) (omega arith) l.invariant.1
 
-pub stage4-spec : {M : Type 1} → statement M
-stage4-spec =
+pub stage4_spec : {M : Type 1} → statement M
+stage4_spec =
     tie.close
     (tie.spec
     invariant-loop

@@ -5,7 +5,7 @@ use native.Mathlib.Omega.{arith}
 use Rattle.fft.specs.Fast.{row5}
 use Rattle.fft.specs.Single.{single, of}
 use Rattle.fft.specs.Private.{Laid}
-use Rattle.fft.proofs.Laying.{begun, laid-all}
+use Rattle.fft.proofs.Laying.{begun, laid_all}
 use Rattle.fft.proofs.stages.stage5.Statement.{statement}
 use Rattle.fft.proofs.stages.stage5.Tie as tie
 
@@ -23,10 +23,10 @@ loop-again c =
 
 returns : tie.Need-returns invariant-loop decreases-loop
 returns c = let l = c.before.loop in
-    laid-all 5 96 _ refl (omega arith) (8 * l.b) (omega arith) (omega arith) l.invariant.1
+    laid_all 5 96 _ refl (omega arith) (8 * l.b) (omega arith) (omega arith) l.invariant.1
 
-pub stage5-spec : {M : Type 1} → statement M
-stage5-spec =
+pub stage5_spec : {M : Type 1} → statement M
+stage5_spec =
     tie.close
     (tie.spec
     invariant-loop

@@ -2,8 +2,8 @@
 use Rattle.finder.proofs.doubling.explain.Statement.{statement}
 use Rattle.finder.proofs.doubling.explain.Tie as tie
 
-pub explain-spec : {M : Type 1} → statement M
-explain-spec =
+pub explain_spec : {M : Type 1} → statement M
+explain_spec =
     tie.close
     (tie.spec
     (λ c. rw c.if1.true)  -- returns

@@ -3,8 +3,8 @@ use borrow.Author.Rules.{rules}
 use Rattle.finder.proofs.doubling.gain_of.Statement.{statement}
 use Rattle.finder.proofs.doubling.gain_of.Tie as tie
 
-pub gain-of-spec : {M : Type 1} → statement M
-gain-of-spec =
+pub gain_of_spec : {M : Type 1} → statement M
+gain_of_spec =
     tie.close
     (tie.spec
     (λ c κs. search rules)  -- max-requires

@@ -2,19 +2,19 @@
 use Prim.Native.Nat.{◌-◌}
 use native.Mathlib.Omega.{arith}
 use borrow.Author.Rules.{rules}
-use Rattle.finder.specs.Doubling.{productAt}
-use Rattle.finder.proofs.Joined.{inner-at}
+use Rattle.finder.specs.Doubling.{product_at}
+use Rattle.finder.proofs.Joined.{inner_at}
 use Rattle.finder.proofs.doubling.product_at.Statement.{statement}
 use Rattle.finder.proofs.doubling.product_at.Tie as tie
 
 returns : tie.Need-returns
-unfolding productAt
+unfolding product_at
 returns c =
     let a = c.before.before.before.before.before.args in
-    inner-at a.x.now (384 - a.t) (omega arith) (omega arith) c.sum.ensures c.before.inner-prod.ensures
+    inner_at a.x.now (384 - a.t) (omega arith) (omega arith) c.sum.ensures c.before.inner-prod.ensures
 
-pub product-at-spec : {M : Type 1} → statement M
-product-at-spec =
+pub product_at_spec : {M : Type 1} → statement M
+product_at_spec =
     tie.close
     (tie.spec
     (λ c. search rules)  -- sub-from

@@ -3,8 +3,8 @@ use borrow.Author.Rules.{rules}
 use Rattle.finder.proofs.doubling.remove_doubling.Statement.{statement}
 use Rattle.finder.proofs.doubling.remove_doubling.Tie as tie
 
-pub remove-doubling-spec : {M : Type 1} → statement M
-remove-doubling-spec =
+pub remove_doubling_spec : {M : Type 1} → statement M
+remove_doubling_spec =
     tie.close
     (tie.spec
     (λ c. search rules)  -- slice-aggregate-remove-in

@@ -1,14 +1,14 @@
 -- `finder::doubling::remove_in` meets its contract. Assumes nothing.
 use native.Mathlib.Omega.{arith}
 use borrow.Author.Rules.{rules}
-use Rattle.finder.proofs.Joined.{doubling-of}
-use Rattle.finder.proofs.Ranges.{best-inner}
+use Rattle.finder.proofs.Joined.{doubling_of}
+use Rattle.finder.proofs.Ranges.{best_inner}
 use Rattle.finder.proofs.doubling.remove_in.Statement.{statement}
 use Rattle.finder.proofs.doubling.remove_in.Tie as tie
 
 period-at-requires : tie.Need-period-at-requires
 period-at-requires c κs =
-    let inner = best-inner _ _ _ _ c.try-shorter.ensures (omega arith)
+    let inner = best_inner _ _ _ _ c.try-shorter.ensures (omega arith)
     (record { least = omega arith; most = omega arith }) in
     (omega arith, inner.least, inner.most)
 
@@ -18,12 +18,12 @@ returns c =
     let gained = best.before.before in
     let table = gained.before.before.before.before in
     let second = table.before.before in
-    doubling-of _ _ _ _ second.before.product_at.ensures second.product-at2.ensures table.look_up.ensures
+    doubling_of _ _ _ _ second.before.product_at.ensures second.product-at2.ensures table.look_up.ensures
     gained.pitch-gain.ensures
     best.try-shorter.ensures c.before.period-at.ensures c.gain-of.ensures
 
-pub remove-in-spec : {M : Type 1} → statement M
-remove-in-spec =
+pub remove_in_spec : {M : Type 1} → statement M
+remove_in_spec =
     tie.close
     (tie.spec
     (λ c κs. search rules)  -- product-at-requires

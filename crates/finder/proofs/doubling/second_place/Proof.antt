@@ -2,14 +2,14 @@
 use native.Mathlib.Omega.{arith}
 use borrow.Author.Rules.{rules}
 use borrow.Author.Tests.{lt-ltb, le-ltb, eq-eqb, ne_eqb}
-use Rattle.finder.specs.Doubling.{secondPlace}
-use Rattle.finder.proofs.Ranges.{check-small, check-product}
+use Rattle.finder.specs.Doubling.{second_place}
+use Rattle.finder.proofs.Ranges.{check_small, check_product}
 use Rattle.finder.proofs.doubling.second_place.Statement.{statement}
 use Rattle.finder.proofs.doubling.second_place.Tie as tie
 
-pub second-place-spec : {M : Type 1} → statement M
-unfolding secondPlace
-second-place-spec =
+pub second_place_spec : {M : Type 1} → statement M
+unfolding second_place
+second_place_spec =
     tie.close
     (tie.spec
     (λ c. search rules)  -- add-if2
@@ -22,18 +22,18 @@ second-place-spec =
     (λ c.
     omega (
       arith,
-      check-small c.before.before.args.k c.second-check.ensures (omega arith) c.before.if1.false,
+      check_small c.before.before.args.k c.second-check.ensures (omega arith) c.before.if1.false,
     ))  -- mul-result-2
     (λ c.
     omega (
       arith,
-      check-product c.before.before.args.t0 c.before.before.args.k c.second-check.ensures (omega arith)
+      check_product c.before.before.args.t0 c.before.before.args.k c.second-check.ensures (omega arith)
           (omega arith) c.before.if1.false,
     ))  -- mul-result-3
     (λ c.
     omega (
       arith,
-      check-product c.before.before.args.t0 c.before.before.args.k c.second-check.ensures (omega arith)
+      check_product c.before.before.args.t0 c.before.before.args.k c.second-check.ensures (omega arith)
           (omega arith) c.before.if1.false,
     ))  -- add-result-2
     (λ c. search rules)  -- mul-result-4

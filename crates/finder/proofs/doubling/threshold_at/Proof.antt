@@ -4,8 +4,8 @@ use borrow.Author.Tests.{lt-ltb, le-ltb}
 use Rattle.finder.proofs.doubling.threshold_at.Statement.{statement}
 use Rattle.finder.proofs.doubling.threshold_at.Tie as tie
 
-pub threshold-at-spec : {M : Type 1} → statement M
-threshold-at-spec =
+pub threshold_at_spec : {M : Type 1} → statement M
+threshold_at_spec =
     tie.close
     (tie.spec
     (λ c κs. search rules)  -- carry-requires

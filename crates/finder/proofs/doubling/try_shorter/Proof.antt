@@ -3,14 +3,14 @@ use Rattle.rules.proofs.Common.{◌+◌, ◌-◌, ◌≤◌, ◌≡◌}
 use native.Mathlib.Omega.{arith}
 use borrow.Author.Tests.{lt-ltb, le-ltb}
 use Rattle.rules.specs.Loop.{walk, go, stop}
-use Rattle.rules.proofs.Loops.{turns, walk_more, walk-ended, walk-stop}
-use Rattle.finder.specs.Doubling.{shorterStep, shorter}
-use Rattle.finder.proofs.Ranges.{shortened-small}
+use Rattle.rules.proofs.Loops.{turns, walk_more, walk_ended, walk_stop}
+use Rattle.finder.specs.Doubling.{shorter_step, shorter}
+use Rattle.finder.proofs.Ranges.{shortened_small}
 use Rattle.finder.proofs.doubling.try_shorter.Statement.{statement}
 use Rattle.finder.proofs.doubling.try_shorter.Tie as tie
 
 abbrev invariant-loop : tie.invariant-loop
-invariant-loop x lookup a best₀ i₀ best i = (i ≤ 14) × (go best ≡ walk i (shorterStep x lookup a) best₀)
+invariant-loop x lookup a best₀ i₀ best i = (i ≤ 14) × (go best ≡ walk i (shorter_step x lookup a) best₀)
 
 abbrev decreases-loop : tie.decreases-loop
 decreases-loop x lookup a best₀ i₀ best i = 14 - i
@@ -20,7 +20,7 @@ consider-requires c κs =
     let l = c.before.before.before in
     let a = l.before.before.before.args.a in
     let small : c.before.shorten.result ≤ 383 =
-    rw c.before.shorten.ensures (shortened-small a.t0 (l.loop.i + 2) (omega arith) (omega arith)) in
+    rw c.before.shorten.ensures (shortened_small a.t0 (l.loop.i + 2) (omega arith) (omega arith)) in
     search (turns, small)
 
 -- the turn that leaves the loop
@@ -28,7 +28,7 @@ returns : tie.Need-returns invariant-loop decreases-loop
 unfolding shorter
 returns c =
     let l = c.before.before.before.loop in
-    walk-stop _ _ (l.i + 1) 14 (omega arith)
+    walk_stop _ _ (l.i + 1) 14 (omega arith)
     (walk_more _ _ _ {next = stop l.best} l.invariant.1
     (rw (lt-ltb _ _ (rw c.before.shorten.ensures at c.if1.true))))
 
@@ -47,10 +47,10 @@ loop-again c =
 
 returns-2 : tie.Need-returns-2 invariant-loop decreases-loop
 unfolding shorter
-returns-2 c = walk-ended _ _ _ 14 (omega arith) (omega arith) c.before.loop.invariant.1
+returns-2 c = walk_ended _ _ _ 14 (omega arith) (omega arith) c.before.loop.invariant.1
 
-pub try-shorter-spec : {M : Type 1} → statement M
-try-shorter-spec =
+pub try_shorter_spec : {M : Type 1} → statement M
+try_shorter_spec =
     tie.close
     (tie.spec
     invariant-loop

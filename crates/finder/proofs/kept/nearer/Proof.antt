@@ -4,8 +4,8 @@ use Rattle.rules.proofs.Numbers.{casts}
 use Rattle.finder.proofs.kept.nearer.Statement.{statement}
 use Rattle.finder.proofs.kept.nearer.Tie as tie
 
-pub nearer-spec : {M : Type 1} → statement M
-nearer-spec =
+pub nearer_spec : {M : Type 1} → statement M
+nearer_spec =
     tie.close
     (tie.spec
     (λ c. casts _ (omega arith))  -- int-to-float-if1

@@ -2,19 +2,19 @@
 use Rattle.rules.proofs.Common.{◌-◌, ◌≤◌, ◌≡◌}
 use Rattle.rules.specs.Loop.{range}
 use Rattle.rules.proofs.Loops.{turns}
-use Rattle.finder.specs.Kept.{lagStep, wholeLag}
+use Rattle.finder.specs.Kept.{lag_step, whole_lag}
 use Rattle.finder.proofs.kept.whole_lag.Statement.{statement}
 use Rattle.finder.proofs.kept.whole_lag.Tie as tie
 
 abbrev invariant-loop : tie.invariant-loop
-invariant-loop x lag₀ k₀ lag k = (1 ≤ k) × (k ≤ 769) × (lag ≡ range 1 k (lagStep x) 0)
+invariant-loop x lag₀ k₀ lag k = (1 ≤ k) × (k ≤ 769) × (lag ≡ range 1 k (lag_step x) 0)
 
 abbrev decreases-loop : tie.decreases-loop
 decreases-loop x lag₀ k₀ lag k = 769 - k
 
-pub whole-lag-spec : {M : Type 1} → statement M
-unfolding wholeLag
-whole-lag-spec =
+pub whole_lag_spec : {M : Type 1} → statement M
+unfolding whole_lag
+whole_lag_spec =
     tie.close
     (tie.spec
     invariant-loop

@@ -1,7 +1,7 @@
 -- `finder::search::coarse_in` meets its contract. Assumes nothing.
 use native.Mathlib.Omega.{arith}
 use borrow.Author.Rules.{rules}
-use Rattle.finder.proofs.Joined.{coarse-of}
+use Rattle.finder.proofs.Joined.{coarse_of}
 use Rattle.finder.proofs.search.coarse_in.Statement.{statement}
 use Rattle.finder.proofs.search.coarse_in.Tie as tie
 
@@ -11,12 +11,12 @@ returns c =
     let second = xcorr.before.before.before.before.before.before in
     let first = second.before.before.before.before in
     let a = first.before.before.before.before.before.before.before.args in
-    coarse-of a.buf.now (omega arith) (omega arith) (omega arith) first.every-second.ensures
+    coarse_of a.buf.now (omega arith) (omega arith) (omega arith) first.every-second.ensures
     second.every-second2.ensures xcorr.pitch-xcorr.ensures
     c.find-best-pitch.ensures
 
-pub coarse-in-spec : {M : Type 1} → statement M
-coarse-in-spec =
+pub coarse_in_spec : {M : Type 1} → statement M
+coarse_in_spec =
     tie.close
     (tie.spec
     (λ c. search rules)  -- sub-every-second

@@ -22,8 +22,8 @@ returns-3 c =
       lt-ltb _ _ (rw c.before.distance2.ensures at c.if2.false),
     )
 
-pub correlate-spec : {M : Type 1} → statement M
-correlate-spec =
+pub correlate_spec : {M : Type 1} → statement M
+correlate_spec =
     tie.close
     (tie.spec
     (λ c. search rules)  -- mul-distance

@@ -1,19 +1,19 @@
 -- `finder::search::correlations` meets its contract. Assumes nothing.
 use Prim.Native.Nat.{◌≤◌, ◌-◌}
 use Rattle.rules.proofs.Lists.{Filling, fills}
-use Rattle.finder.specs.Search.{fineAt, fine}
+use Rattle.finder.specs.Search.{fine_at, fine}
 use Rattle.finder.proofs.search.correlations.Statement.{statement}
 use Rattle.finder.proofs.search.correlations.Tie as tie
 
 abbrev invariant-loop : tie.invariant-loop
-invariant-loop xcorr₀ buf first second i₀ xcorr i = (i ≤ 294) × Filling (fineAt buf first second) xcorr₀ i xcorr
+invariant-loop xcorr₀ buf first second i₀ xcorr i = (i ≤ 294) × Filling (fine_at buf first second) xcorr₀ i xcorr
 
 abbrev decreases-loop : tie.decreases-loop
 decreases-loop xcorr₀ buf first second i₀ xcorr i = 294 - i
 
-pub correlations-spec : {M : Type 1} → statement M
+pub correlations_spec : {M : Type 1} → statement M
 unfolding fine
-correlations-spec =
+correlations_spec =
     tie.close
     (tie.spec
     invariant-loop

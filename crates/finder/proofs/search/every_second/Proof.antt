@@ -11,8 +11,8 @@ invariant-loop out₀ xs j₀ j-end out j = (j ≤ j-end) × (j-end ≡ length o
 abbrev decreases-loop : tie.decreases-loop
 decreases-loop out₀ xs j₀ j-end out j = j-end - j
 
-pub every-second-spec : {M : Type 1} → statement M
-every-second-spec =
+pub every_second_spec : {M : Type 1} → statement M
+every_second_spec =
     tie.close
     (tie.spec
     invariant-loop

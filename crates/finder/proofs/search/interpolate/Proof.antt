@@ -2,7 +2,7 @@
 use native.Mathlib.Omega.{arith}
 use borrow.Author.Rules.{rules}
 use borrow.Author.Tests.{lt-ltb, le-ltb}
-use Rattle.finder.proofs.Ranges.{lean-of}
+use Rattle.finder.proofs.Ranges.{lean_of}
 use Rattle.finder.proofs.search.interpolate.Statement.{statement}
 use Rattle.finder.proofs.search.interpolate.Tie as tie
 
@@ -12,8 +12,8 @@ returns-3 c =
     let best = inside.before.before.before.args.best in
     rw (c.lean.ensures, lt-ltb 0 best (omega arith), lt-ltb best 293 inside.if2.false)
 
-pub interpolate-spec : {M : Type 1} → statement M
-interpolate-spec =
+pub interpolate_spec : {M : Type 1} → statement M
+interpolate_spec =
     tie.close
     (tie.spec
     (λ c. search rules)  -- mul-result
@@ -31,5 +31,5 @@ interpolate-spec =
     (λ c. search rules)  -- mul-lean-3
     (λ c. search rules)  -- shared-slice-read-lean-3
     (λ c κs. search rules)  -- lean-requires
-    (λ c. omega (arith, lean-of _ _ _ c.lean.ensures))  -- sub-result
+    (λ c. omega (arith, lean_of _ _ _ c.lean.ensures))  -- sub-result
     returns-3)

@@ -3,9 +3,9 @@ use Rattle.finder.specs.Search.{leaning}
 use Rattle.finder.proofs.search.lean.Statement.{statement}
 use Rattle.finder.proofs.search.lean.Tie as tie
 
-pub lean-spec : {M : Type 1} → statement M
+pub lean_spec : {M : Type 1} → statement M
 unfolding leaning
-lean-spec =
+lean_spec =
     tie.close
     (tie.spec
     (λ c. rw c.if1.true)  -- returns

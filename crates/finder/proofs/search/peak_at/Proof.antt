@@ -1,23 +1,23 @@
 -- `finder::search::peak_at` meets its contract. Assumes nothing.
 use native.Mathlib.Omega.{arith}
 use borrow.Author.Rules.{rules}
-use Rattle.finder.specs.Search.{peakAt}
-use Rattle.finder.proofs.Joined.{inner-at}
+use Rattle.finder.specs.Search.{peak_at}
+use Rattle.finder.proofs.Joined.{inner_at}
 use Rattle.finder.proofs.search.peak_at.Statement.{statement}
 use Rattle.finder.proofs.search.peak_at.Tie as tie
 
 returns : tie.Need-returns
-unfolding peakAt
+unfolding peak_at
 returns c =
     let s = c.before in
     let a = s.before.before.before.before.before.args in
     rw (
       c.max.ensures,
-      inner-at a.buf.now a.i (omega arith) (omega arith) s.sum.ensures s.before.inner-prod.ensures,
+      inner_at a.buf.now a.i (omega arith) (omega arith) s.sum.ensures s.before.inner-prod.ensures,
     )
 
-pub peak-at-spec : {M : Type 1} → statement M
-peak-at-spec =
+pub peak_at_spec : {M : Type 1} → statement M
+peak_at_spec =
     tie.close
     (tie.spec
     (λ c. search rules)  -- sub-inner-prod

@@ -1,7 +1,7 @@
 -- `finder::search::search_in` meets its contract. Assumes nothing.
 use native.Mathlib.Omega.{arith}
 use borrow.Author.Rules.{rules}
-use Rattle.finder.proofs.Joined.{near_of, best_of, best-below, search-of}
+use Rattle.finder.proofs.Joined.{near_of, best_of_lem, best_below, search_of}
 use Rattle.finder.proofs.search.search_in.Statement.{statement}
 use Rattle.finder.proofs.search.search_in.Tie as tie
 
@@ -16,9 +16,9 @@ interpolate-requires c κs =
     let found = c.before in
     let fine = found.before.before.before.before in
     let a = fine.before.before.before.before.before.before.before.args in
-    let best = best_of a.buf.now _ _ (omega arith) fine.correlations.ensures found.find-best-pitch.ensures
+    let best = best_of_lem a.buf.now _ _ (omega arith) fine.correlations.ensures found.find-best-pitch.ensures
     c.first2.ensures in
-    (omega arith, best-below a.buf.now _ _ fine.correlations.ensures best)
+    (omega arith, best_below a.buf.now _ _ fine.correlations.ensures best)
 
 returns : tie.Need-returns
 returns c =
@@ -29,13 +29,13 @@ returns c =
     let first = second.before in
     let coarse = first.before.before in
     let a = coarse.before.before.before.args in
-    search-of a.buf.now coarse.coarse-pitches.ensures first.first.ensures second.second.ensures
+    search_of a.buf.now coarse.coarse-pitches.ensures first.first.ensures second.second.ensures
     fine.correlations.ensures
-    (best_of a.buf.now _ _ (omega arith) fine.correlations.ensures found.find-best-pitch.ensures
+    (best_of_lem a.buf.now _ _ (omega arith) fine.correlations.ensures found.find-best-pitch.ensures
     first2.first2.ensures) c.interpolate.ensures
 
-pub search-in-spec : {M : Type 1} → statement M
-search-in-spec =
+pub search_in_spec : {M : Type 1} → statement M
+search_in_spec =
     tie.close
     (tie.spec
     (λ c κs. search rules)  -- coarse-pitches-requires

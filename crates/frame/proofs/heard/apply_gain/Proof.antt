@@ -4,7 +4,7 @@ use native.Mathlib.Omega.{arith}
 use borrow.Author.Rules.{rules}
 use Rattle.rules.specs.Place.{get, put}
 use Rattle.rules.proofs.Refusals.{left as fitted}
-use Rattle.bands.specs.Bands.{bandGain}
+use Rattle.bands.specs.Bands.{band_gain}
 use Rattle.features.specs.Pitch.{applied}
 use Rattle.frame.specs.Share.{lastg}
 use Rattle.frame.proofs.heard.apply_gain.Statement.{statement}
@@ -19,11 +19,11 @@ returns c =
     let held = fitted h.hold-gains.ensures
     (record { gains = omega arith; remembered = simp (length-take, length-drop) (omega arith) }) in (
       ap (λ (b : List Float × List Float). put lastg x.share.now b.1) held,
-      a.apply.ensures ∙ ap (λ (b : List Float × List Float). applied x.out.now (bandGain b.0)) held,
+      a.apply.ensures ∙ ap (λ (b : List Float × List Float). applied x.out.now (band_gain b.0)) held,
     )
 
-pub apply-gain-spec : {M : Type 1} → statement M
-apply-gain-spec =
+pub apply_gain_spec : {M : Type 1} → statement M
+apply_gain_spec =
     tie.close
     (tie.spec
     (λ c. search rules)  -- sub-hold-gains

@@ -14,8 +14,8 @@ returns c =
     fitted a.apply-gains.ensures (record { spectrum = omega arith; bins = omega arith })
     ∙ ap (applied _) (fitted g.interp-band-gain.ensures (record { bins = omega arith; from = omega arith }))
 
-pub apply-in-spec : {M : Type 1} → statement M
-apply-in-spec =
+pub apply_in_spec : {M : Type 1} → statement M
+apply_in_spec =
     tie.close
     (tie.spec
     (λ c κs. search rules)  -- interp-band-gain-requires

@@ -8,8 +8,8 @@ use Rattle.frame.proofs.heard.check.Tie as tie
 returns : tie.Need-returns
 returns c = c.judge.ensures ∙ ap (checked _) c.before.read.ensures
 
-pub check-spec : {M : Type 1} → statement M
-check-spec = tie.close
+pub check_spec : {M : Type 1} → statement M
+check_spec = tie.close
     (tie.spec
     (λ c κs. search rules)  -- read-requires
     (λ c κs. search rules)  -- judge-requires

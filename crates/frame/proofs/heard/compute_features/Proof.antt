@@ -5,23 +5,23 @@ use Rattle.rules.specs.F32.{at}
 use Rattle.rules.specs.Leaf.{◌leaving◌}
 use Rattle.rules.specs.Place.{get, put}
 use Rattle.rules.proofs.Refusals.{left as fitted}
-use Rattle.features.specs.Features.{normalisedCorr, featuresOf, withCepstrum}
-use Rattle.frame.specs.Share.{keptX, keptEx, keptLag, cepstralMem}
+use Rattle.features.specs.Features.{normalised_corr, features_of, with_cepstrum}
+use Rattle.frame.specs.Share.{kept_x, kept_ex, kept_lag, cepstral_mem}
 use Rattle.frame.specs.Heard.{featured}
-use Rattle.frame.specs.Private.{featuredAs}
-use Rattle.frame.proofs.Sizes.{x-size, ex-size, cepstra-size, lag-at}
+use Rattle.frame.specs.Private.{featured_as}
+use Rattle.frame.proofs.Sizes.{x_size, ex_size, cepstra_size, lag_at}
 use Rattle.frame.proofs.heard.compute_features.Statement.{statement}
 use Rattle.frame.proofs.heard.compute_features.Tie as tie
 
 -- what `compute_features` leaves, from x, ex and the lag as the share keeps them
 sensed : (share : List Float) (index : ℕ) (p ep logs : List Float) {x ex : List Float} {lag : Float}
     {f e m : List Float}
-    → x ≡ get keptX share → ex ≡ get keptEx share → at (get keptLag share) 0 ≡ lag
+    → x ≡ get kept_x share → ex ≡ get kept_ex share → at (get kept_lag share) 0 ≡ lag
     → (f leaving e leaving m)
-    ≡ (featuresOf (normalisedCorr x p ex ep) lag logs (get cepstralMem share) index
-    leaving normalisedCorr x p ex ep
-    leaving withCepstrum logs (get cepstralMem share) index)
-    → featuredAs (put cepstralMem share m) f e ≡ featured share index p ep logs
+    ≡ (features_of (normalised_corr x p ex ep) lag logs (get cepstral_mem share) index
+    leaving normalised_corr x p ex ep
+    leaving with_cepstrum logs (get cepstral_mem share) index)
+    → featured_as (put cepstral_mem share m) f e ≡ featured share index p ep logs
 unfolding featured
 sensed share index p ep logs hx hex hlag h =
     rw (
@@ -44,22 +44,22 @@ returns c =
     let pre = start.pre in
     let x = pre.1.1.0 in
     let ex = pre.1.1.1 in
-    sensed share a.index a.p.now a.ep.now a.logs.now x ex (lag-at share)
+    sensed share a.index a.p.now a.ep.now a.logs.now x ex (lag_at share)
     (fitted f.compute-features.ensures
     (record {
       all = pre.0.1;
       correlations = pre.0.2;
-      rows = cepstra-size share pre.0.0;
+      rows = cepstra_size share pre.0.0;
       inside = pre.0.3;
-      spectrum = ap length x ∙ x-size share pre.0.0;
+      spectrum = ap length x ∙ x_size share pre.0.0;
       lagged = pre.1.0.0;
-      energies = ap length ex ∙ ex-size share pre.0.0;
-      laggedEnergies = pre.1.0.1;
+      energies = ap length ex ∙ ex_size share pre.0.0;
+      lagged_energies = pre.1.0.1;
       logarithms = pre.1.0.2;
     }))
 
-pub compute-features-spec : {M : Type 1} → statement M
-compute-features-spec =
+pub compute_features_spec : {M : Type 1} → statement M
+compute_features_spec =
     tie.close
     (tie.spec
     (λ c. search rules)  -- slice-read-lag

@@ -2,9 +2,9 @@
 use Rattle.rules.proofs.Common.{List, ap, ◌∙◌, Float}
 use borrow.Author.Rules.{rules}
 use Rattle.rules.proofs.Refusals.{left as fitted}
-use Rattle.bands.specs.Bands.{bandGain}
+use Rattle.bands.specs.Bands.{band_gain}
 use Rattle.features.specs.Pitch.{applied}
-use Rattle.frame.specs.Heard.{heldGains}
+use Rattle.frame.specs.Heard.{held_gains}
 use Rattle.frame.proofs.heard.filter_and_apply_gain.Statement.{statement}
 use Rattle.frame.proofs.heard.filter_and_apply_gain.Tie as tie
 
@@ -23,15 +23,15 @@ returns c =
       wanted = pre.0.2;
       correlations = pre.1.1;
       energies = pre.1.2;
-      laggedEnergies = pre.1.3;
+      lagged_energies = pre.1.3;
     }) in (
       r.apply-gain.ensures.0,
       r.apply-gain.ensures.1
-          ∙ ap (λ (l : List Float). applied l (bandGain (heldGains a.share.now a.gains.now))) x,
+          ∙ ap (λ (l : List Float). applied l (band_gain (held_gains a.share.now a.gains.now))) x,
     )
 
-pub filter-and-apply-gain-spec : {M : Type 1} → statement M
-filter-and-apply-gain-spec =
+pub filter_and_apply_gain_spec : {M : Type 1} → statement M
+filter_and_apply_gain_spec =
     tie.close
     (tie.spec
     (λ c κs. search rules)  -- pitch-filter-requires

@@ -4,8 +4,8 @@ use native.Mathlib.Omega.{arith}
 use borrow.Author.Rules.{rules}
 use Rattle.rules.specs.Place.{get}
 use Rattle.rules.proofs.Refusals.{left as fitted}
-use Rattle.frame.specs.Heard.{spokenFrom}
-use Rattle.frame.proofs.Sizes.{ex-size}
+use Rattle.frame.specs.Heard.{spoken_from}
+use Rattle.frame.proofs.Sizes.{ex_size}
 use Rattle.frame.proofs.heard.hear_in.Statement.{statement}
 use Rattle.frame.proofs.heard.hear_in.Tie as tie
 
@@ -16,7 +16,7 @@ process-heard-requires c κs =
     let k = x.before.before.before.before.before in
     let start = k.before.before.before.before.before.before.before.before.before.before.before.before in
     let pre = start.requires in
-    let ex = fitted k.copy.ensures (pre.1.1 ∙ sym (ex-size start.args.share.now pre.0.0)) in
+    let ex = fitted k.copy.ensures (pre.1.1 ∙ sym (ex_size start.args.share.now pre.0.0)) in
     (omega (arith, pre, x.transform.auto), (pre.0.1, ex))
 
 returns : tie.Need-returns
@@ -26,11 +26,11 @@ returns c m good =
     let a =
     x.before.before.before.before.before.before.before.before.before.before.before.before.before.before.before.before.before.args in
     s.process-heard.ensures m good
-    ∙ ap₂ (λ (p ep : List Float). spokenFrom a.share.now a.index p ep a.logs.now a.model.now m)
+    ∙ ap₂ (λ (p ep : List Float). spoken_from a.share.now a.index p ep a.logs.now a.model.now m)
     x.transform.ensures.0 x.transform.ensures.1
 
-pub hear-in-spec : {M : Type 1} → statement M
-hear-in-spec =
+pub hear_in_spec : {M : Type 1} → statement M
+hear_in_spec =
     tie.close
     (tie.spec
     (λ c. search rules)  -- sub-copy

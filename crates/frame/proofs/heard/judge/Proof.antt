@@ -27,8 +27,8 @@ unfolding checked
 returns-5 c =
     search (tests, c.before.before.before.before.before.before.before.before.before.before.read2.given.1)
 
-pub judge-spec : {M : Type 1} → statement M
-judge-spec =
+pub judge_spec : {M : Type 1} → statement M
+judge_spec =
     tie.close
     (tie.spec
     (λ c. search rules)  -- enum-known-read

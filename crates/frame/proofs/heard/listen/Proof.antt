@@ -3,8 +3,8 @@ use Rattle.rules.proofs.Common.{[], ◌∷◌, sym, ◌∙◌}
 use borrow.Author.Rules.{rules}
 use Rattle.rules.specs.Place.{get}
 use Rattle.rules.proofs.Refusals.{left as fitted, fitting}
-use Rattle.frame.proofs.Sizes.{x-size, ex-size}
-use Rattle.frame.proofs.Sounded.{is-silent, is-heard}
+use Rattle.frame.proofs.Sizes.{x_size, ex_size}
+use Rattle.frame.proofs.Sounded.{is_silent_lem, is_heard_lem}
 use Rattle.frame.proofs.heard.listen.Statement.{statement}
 use Rattle.frame.proofs.heard.listen.Tie as tie
 
@@ -16,9 +16,9 @@ returns c m good =
     let start = l.before.before.before.before.before.before.before.before in
     let a = start.args in
     let share = a.share.now in
-    let x = fitted k.copy.ensures (start.requires.1 ∙ sym (x-size share start.requires.0)) in
-    let sound = fitting l.listen.ensures (ex-size share start.requires.0) in
-    is-silent share a.index a.spectrum.now a.logs.now a.model.now m a.out.now sound
+    let x = fitted k.copy.ensures (start.requires.1 ∙ sym (x_size share start.requires.0)) in
+    let sound = fitting l.listen.ensures (ex_size share start.requires.0) in
+    is_silent_lem share a.index a.spectrum.now a.logs.now a.model.now m a.out.now sound
     (sym c.before.is-quiet.ensures ∙ c.if1.true) x
 
 hear-requires : tie.Need-hear-requires
@@ -28,7 +28,7 @@ hear-requires c κs =
     let start = k.before.before.before.before.before.before.before.before.before.before.before.before in
     let pre = start.requires in (
       pre.0,
-      fitted k.copy.ensures (pre.1 ∙ sym (x-size start.args.share.now pre.0)),
+      fitted k.copy.ensures (pre.1 ∙ sym (x_size start.args.share.now pre.0)),
       pre.2,
       pre.3,
       pre.4,
@@ -43,14 +43,14 @@ returns-2 c m good =
     let start = l.before.before.before.before.before.before.before.before in
     let a = start.args in
     let share = a.share.now in
-    let sound = fitting l.listen.ensures (ex-size share start.requires.0) in
+    let sound = fitting l.listen.ensures (ex_size share start.requires.0) in
     let loud = sym i.before.is-quiet.ensures ∙ i.if1.false in
     rw c.reply-of.ensures
-    (is-heard share a.index a.spectrum.now a.logs.now a.model.now m a.out.now sound loud
+    (is_heard_lem share a.index a.spectrum.now a.logs.now a.model.now m a.out.now sound loud
     (h.hear.ensures m good))
 
-pub listen-spec : {M : Type 1} → statement M
-listen-spec =
+pub listen_spec : {M : Type 1} → statement M
+listen_spec =
     tie.close
     (tie.spec
     (λ c. search rules)  -- sub-listen

@@ -12,8 +12,8 @@ process-heard-in-requires c κs =
 returns : tie.Need-returns
 returns c = search rules
 
-pub process-heard-spec : {M : Type 1} → statement M
-process-heard-spec =
+pub process_heard_spec : {M : Type 1} → statement M
+process_heard_spec =
     tie.close
     (tie.spec
     (λ c. search rules)  -- slice-aggregate-process-heard-in

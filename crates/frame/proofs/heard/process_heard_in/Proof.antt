@@ -2,7 +2,7 @@
 use Rattle.rules.proofs.Common.{ap, ◌∙◌, length}
 use native.Mathlib.Omega.{arith}
 use borrow.Author.Rules.{rules}
-use Rattle.frame.proofs.Sizes.{x-size, ex-size}
+use Rattle.frame.proofs.Sizes.{x_size, ex_size}
 use Rattle.frame.proofs.Spoken.{spoke}
 use Rattle.frame.proofs.heard.process_heard_in.Statement.{statement}
 use Rattle.frame.proofs.heard.process_heard_in.Tie as tie
@@ -15,8 +15,8 @@ filter-and-apply-gain-requires c κs =
     s.before.before.before.before.before.before.before.before.before.before.before.before.before.before.before in
     let pre = start.pre in
     let share = start.args.share.now in
-    let x = ap length pre.1.1.0 ∙ x-size share pre.0.0 in
-    let ex = ap length pre.1.1.1 ∙ ex-size share pre.0.0 in
+    let x = ap length pre.1.1.0 ∙ x_size share pre.0.0 in
+    let ex = ap length pre.1.1.1 ∙ ex_size share pre.0.0 in
     omega (arith, pre, x, ex, s.compute-features.auto, t.compute-rnn.auto)
 
 returns : tie.Need-returns
@@ -32,8 +32,8 @@ returns c m good =
     s.compute-features.ensures (t.compute-rnn.ensures m good) h.filter-and-apply-gain.ensures.0
     h.filter-and-apply-gain.ensures.1
 
-pub process-heard-in-spec : {M : Type 1} → statement M
-process-heard-in-spec =
+pub process_heard_in_spec : {M : Type 1} → statement M
+process_heard_in_spec =
     tie.close
     (tie.spec
     (λ c κs. search rules)  -- compute-features-requires

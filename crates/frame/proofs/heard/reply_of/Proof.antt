@@ -12,8 +12,8 @@ returns-2 c = rw c.before.sound.given.1
 returns-3 : tie.Need-returns-3
 returns-3 c = rw c.before.sound2.given.1
 
-pub reply-of-spec : {M : Type 1} → statement M
-reply-of-spec =
+pub reply_of_spec : {M : Type 1} → statement M
+reply_of_spec =
     tie.close
     (tie.spec
     (λ c. search rules)  -- enum-told

@@ -5,7 +5,7 @@ use native.Mathlib.Omega.{arith}
 use lib.Seq.{take_at}
 use Rattle.rules.specs.F32.{at}
 use Rattle.rules.specs.Tab.{tab}
-use Rattle.rules.proofs.Lists.{Filling, filling-more, filling-ahead, fills, length-tab}
+use Rattle.rules.proofs.Lists.{Filling, filling_more, filling_ahead, fills, length_tab}
 use Rattle.frame.proofs.input.shift.Statement.{statement}
 use Rattle.frame.proofs.input.shift.Tie as tie
 
@@ -19,17 +19,17 @@ loop-again : tie.Need-loop-preserved invariant-loop decreases-loop
 loop-again c =
     let l = c.before.before.loop in (
       omega arith,
-      filling-more _ _ _ l.invariant.1 (omega arith) (filling-ahead _ _ _ (l.i + 480) _ l.invariant.1 (omega arith)),
+      filling_more _ _ _ l.invariant.1 (omega arith) (filling_ahead _ _ _ (l.i + 480) _ l.invariant.1 (omega arith)),
     )
 
 returns : tie.Need-returns invariant-loop decreases-loop
 returns c =
     let l = c.before.loop in
     let last : l.i ≡ 1248 = omega arith in
-    ap (take 1248) l.invariant.1.front ∙ rw last (take_at (tab 1248 _) _ 1248 (length-tab 1248 _))
+    ap (take 1248) l.invariant.1.front ∙ rw last (take_at (tab 1248 _) _ 1248 (length_tab 1248 _))
 
-pub shift-spec : {M : Type 1} → statement M
-shift-spec =
+pub shift_spec : {M : Type 1} → statement M
+shift_spec =
     tie.close
     (tie.spec
     invariant-loop

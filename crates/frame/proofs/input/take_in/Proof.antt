@@ -9,7 +9,7 @@ use Rattle.rules.specs.F32.{at}
 use Rattle.rules.specs.Place.{get}
 use Rattle.rules.specs.Tab.{tab}
 use Rattle.rules.proofs.Refusals.{left as fitted, fitting}
-use Rattle.numbers.specs.Filter.{highPass, outputs}
+use Rattle.numbers.specs.Filter.{high_pass, outputs}
 use Rattle.numbers.specs.declared.filter.Filtered.{Filtered}
 use Rattle.bands.specs.Windowed.{windowed}
 use Rattle.frame.specs.Frame.{shifted}
@@ -38,7 +38,7 @@ returns c =
     let size : length m ≡ 1728 = omega arith in
     let part : length (take 480 (drop 1248 m)) ≡ length a.samples.now =
     simp (length-take, length-drop) (omega arith) in
-    let mem = placed a.mem.now (outputs highPass a.memory a.samples.now) m size s.shift.ensures
+    let mem = placed a.mem.now (outputs high_pass a.memory a.samples.now) m size s.shift.ensures
     (fitted f.filter.ensures part) in
     let window = fitted w.apply-window.ensures
     (record { into = omega arith; from = simp (length-take, length-drop, length-append) (omega arith) }) in (
@@ -46,8 +46,8 @@ returns c =
       (mem, window ∙ ap (λ (l : List Float). windowed (take 960 (drop 768 l))) mem),
     )
 
-pub take-in-spec : {M : Type 1} → statement M
-take-in-spec =
+pub take_in_spec : {M : Type 1} → statement M
+take_in_spec =
     tie.close
     (tie.spec
     (λ c κs. search rules)  -- shift-requires

@@ -2,7 +2,7 @@
 use mathlib.Core.Path.{ap}
 use borrow.Author.Rules.{rules}
 use Rattle.rules.specs.Place.{put}
-use Rattle.frame.specs.Share.{keptX}
+use Rattle.frame.specs.Share.{kept_x}
 use Rattle.frame.proofs.lagged.analyse.Statement.{statement}
 use Rattle.frame.proofs.lagged.analyse.Tie as tie
 
@@ -11,10 +11,10 @@ unfolding put
 returns c =
     let t = c.before.before.before.before in
     let share = t.before.before.before.before.before.before.args.share.now in
-    (ap (put keptX share) t.transform.ensures.0, t.transform.ensures.1)
+    (ap (put kept_x share) t.transform.ensures.0, t.transform.ensures.1)
 
-pub analyse-spec : {M : Type 1} → statement M
-analyse-spec =
+pub analyse_spec : {M : Type 1} → statement M
+analyse_spec =
     tie.close
     (tie.spec
     (λ c. search rules)  -- sub-transform

@@ -5,8 +5,8 @@ use borrow.Author.Rules.{rules}
 use Rattle.rules.specs.Place.{get, put}
 use Rattle.rules.proofs.Refusals.{left as fitted}
 use Rattle.rules.proofs.Numbers.{casts}
-use Rattle.rules.proofs.Places.{length-get, length-put, put-sets}
-use Rattle.frame.specs.Share.{keptEx, keptLag}
+use Rattle.rules.proofs.Places.{length_get, length_put, put_sets}
+use Rattle.frame.specs.Share.{kept_ex, kept_lag}
 use Rattle.frame.proofs.lagged.keep.Statement.{statement}
 use Rattle.frame.proofs.lagged.keep.Tie as tie
 
@@ -17,11 +17,11 @@ returns c =
     let a = k.before.before.before.before.args in
     let share = a.share.now in
     let lag = of_int binary32 (pos a.lag.0) ∷ [] in
-    let same = length-get keptEx share (omega arith) in
+    let same = length_get kept_ex share (omega arith) in
     let ex = fitted k.copy.ensures (omega arith) in
-    put-sets (put keptEx share k.copy.new.0) lag 3191
-    (omega (arith, length-put keptEx share k.copy.new.0 (omega arith) (k.copy.auto.0 ∙ same)))
-    ∙ ap (λ (l : List Float). put keptLag (put keptEx share l) lag) ex
+    put_sets (put kept_ex share k.copy.new.0) lag 3191
+    (omega (arith, length_put kept_ex share k.copy.new.0 (omega arith) (k.copy.auto.0 ∙ same)))
+    ∙ ap (λ (l : List Float). put kept_lag (put kept_ex share l) lag) ex
 
 pub keep_spec : {M : Type 1} → statement M
 keep_spec =

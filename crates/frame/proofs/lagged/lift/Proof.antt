@@ -3,8 +3,8 @@
 use Rattle.rules.proofs.Common.{◌-◌, ◌≤◌, ap, Float}
 use native.Mathlib.Omega.{arith}
 use Rattle.rules.specs.F32.{◌⊕◌, at, f32}
-use Rattle.rules.proofs.Lists.{Filling, filling-more, filling-ahead, fills}
-use Rattle.frame.specs.Frame.{plusHundredth}
+use Rattle.rules.proofs.Lists.{Filling, filling_more, filling_ahead, fills}
+use Rattle.frame.specs.Frame.{plus_hundredth}
 use Rattle.frame.proofs.lagged.lift.Statement.{statement}
 use Rattle.frame.proofs.lagged.lift.Tie as tie
 
@@ -17,15 +17,15 @@ decreases-loop ex₀ i₀ ex i = 22 - i
 loop-again : tie.Need-loop-preserved invariant-loop decreases-loop
 loop-again c =
     let l = c.before.before.loop in
-    let ahead = filling-ahead _ _ _ l.i _ l.invariant.1 (omega arith) in
-    (omega arith, filling-more _ _ _ l.invariant.1 (omega arith) (ap (λ (x : Float). f32 0x3C23D70A ⊕ x) ahead))
+    let ahead = filling_ahead _ _ _ l.i _ l.invariant.1 (omega arith) in
+    (omega arith, filling_more _ _ _ l.invariant.1 (omega arith) (ap (λ (x : Float). f32 0x3C23D70A ⊕ x) ahead))
 
 returns : tie.Need-returns invariant-loop decreases-loop
-unfolding plusHundredth
+unfolding plus_hundredth
 returns c = search fills
 
-pub lift-spec : {M : Type 1} → statement M
-lift-spec =
+pub lift_spec : {M : Type 1} → statement M
+lift_spec =
     tie.close
     (tie.spec
     invariant-loop

@@ -3,7 +3,7 @@
 use Prim.Native.Nat.{◌≤◌, ◌-◌}
 use native.Mathlib.Omega.{arith}
 use Rattle.rules.specs.F32.{◌⊗◌, at}
-use Rattle.rules.proofs.Lists.{Filling, filling-more, fills}
+use Rattle.rules.proofs.Lists.{Filling, filling_more, fills}
 use Rattle.bands.specs.Norm.{wnorm}
 use Rattle.frame.specs.Heard.{scaled}
 use Rattle.frame.proofs.lagged.scale.Statement.{statement}
@@ -18,14 +18,14 @@ decreases-loop out₀ spectrum norm i₀ out i = 961 - i
 loop-again : tie.Need-loop-preserved invariant-loop decreases-loop
 loop-again c =
     let l = c.before.before.loop in
-    (omega arith, filling-more _ _ _ l.invariant.1 (omega arith) (rw c.before.before.before.wnorm.ensures))
+    (omega arith, filling_more _ _ _ l.invariant.1 (omega arith) (rw c.before.before.before.wnorm.ensures))
 
 returns : tie.Need-returns invariant-loop decreases-loop
 unfolding scaled
 returns c = search fills
 
-pub scale-spec : {M : Type 1} → statement M
-scale-spec =
+pub scale_spec : {M : Type 1} → statement M
+scale_spec =
     tie.close
     (tie.spec
     invariant-loop

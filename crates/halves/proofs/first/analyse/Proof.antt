@@ -2,7 +2,7 @@
 use native.Mathlib.Omega.{arith}
 use borrow.Author.Rules.{rules}
 use lib.ListN.{length}
-use Rattle.halves.proofs.Onward.{analysed-by}
+use Rattle.halves.proofs.Onward.{analysed_by}
 use Rattle.halves.proofs.first.analyse.Statement.{statement}
 use Rattle.halves.proofs.first.analyse.Tie as tie
 
@@ -12,11 +12,11 @@ returns c =
     let l = o.before.before.before.before.before.before.before in
     let f = l.before.before.before in
     let a = f.before.before.before.before.before.before.args in
-    analysed-by a.share.now a.way a.window.now (length a.sums.now) l.lag.ensures.1
+    analysed_by a.share.now a.way a.window.now (length a.sums.now) l.lag.ensures.1
     f.forward.ensures l.lag.ensures.0 (omega arith) o.call2.ensures
 
-pub analyse-spec : {M : Type 1} → statement M
-analyse-spec =
+pub analyse_spec : {M : Type 1} → statement M
+analyse_spec =
     tie.close
     (tie.spec
     (λ c. search rules)  -- slice-aggregate-forward

@@ -5,13 +5,13 @@ use borrow.Author.Rules.{rules}
 use Rattle.rules.specs.Place.{get}
 use Rattle.rules.proofs.Tests.{tests}
 use Rattle.frame.specs.Frame.{call2}
-use Rattle.halves.specs.Own.{call2Own}
+use Rattle.halves.specs.Own.{call2_own}
 use Rattle.halves.proofs.Sister.{found, worked}
 use Rattle.halves.proofs.own.call2_own.Statement.{statement}
 use Rattle.halves.proofs.own.call2_own.Tie as tie
 
 returns : tie.Need-returns
-unfolding call2Own call2
+unfolding call2_own call2
 returns c = search tests
 
 returns-2 : tie.Need-returns-2
@@ -23,8 +23,8 @@ returns-2 c =
     let a = f.before.before.before.before.before.before.before.before.args in
     worked _ _ _ _ (found a.share.now (omega arith) f.lag-of.ensures l.lag.ensures) d.call2.ensures
 
-pub call2-own-spec : {M : Type 1} → statement M
-call2-own-spec =
+pub call2_own_spec : {M : Type 1} → statement M
+call2_own_spec =
     tie.close
     (tie.spec
     returns

@@ -3,9 +3,9 @@ use Rattle.rules.proofs.Common.{◌≤◌, refl, ap, ◌∙◌, length-take, len
 use native.Mathlib.Omega.{arith}
 use borrow.Author.Rules.{rules}
 use Rattle.rules.proofs.Refusals.{left as fitted}
-use Rattle.finder.proofs.Lags.{lag-small}
-use Rattle.halves.specs.Ways.{forwardBy}
-use Rattle.halves.proofs.Lagged.{looked-back}
+use Rattle.finder.proofs.Lags.{lag_small}
+use Rattle.halves.specs.Ways.{forward_by}
+use Rattle.halves.proofs.Lagged.{looked_back_lem}
 use Rattle.halves.proofs.second.look_back.Statement.{statement}
 use Rattle.halves.proofs.second.look_back.Tie as tie
 
@@ -15,19 +15,19 @@ returns c =
     let w = f.before.before.before.before in
     let l = w.before.before.before in
     let share = l.before.before.before.before.args.share.now in
-    let small : l.whole-lag.result ≤ 768 = rw l.whole-lag.ensures (lag-small _) in
+    let small : l.whole-lag.result ≤ 768 = rw l.whole-lag.ensures (lag_small _) in
     let window = fitted w.apply-window.ensures
     (record { into = refl; from = simp (length-take, length-drop) (omega arith) }) in
     f.forward.ensures
-    ∙ ap (forwardBy _) (window ∙ looked-back share (omega arith) l.whole-lag.ensures)
+    ∙ ap (forward_by _) (window ∙ looked_back_lem share (omega arith) l.whole-lag.ensures)
 
-pub look-back-spec : {M : Type 1} → statement M
-look-back-spec =
+pub look_back_spec : {M : Type 1} → statement M
+look_back_spec =
     tie.close
     (tie.spec
     (λ c. search rules)  -- slice-read
     (λ c κs. search rules)  -- whole-lag-requires
-    (λ c. rw c.whole-lag.ensures (lag-small _))  -- sub-from
+    (λ c. rw c.whole-lag.ensures (lag_small _))  -- sub-from
     (λ c. search rules)  -- slice-aggregate
     (λ c. search rules)  -- add-apply-window
     (λ c. search rules)  -- mul-apply-window

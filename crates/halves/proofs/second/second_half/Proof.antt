@@ -2,27 +2,27 @@
 use Rattle.rules.proofs.Common.{[], ◌∷◌, ◌∙◌, length}
 use native.Mathlib.Omega.{arith}
 use borrow.Author.Rules.{rules}
-use Rattle.frame.specs.Written.{firstIn}
-use Rattle.rules.proofs.Tests.{tests, answered-no, answered-yes}
-use Rattle.halves.specs.Halves.{synthesised, secondHalf}
-use Rattle.halves.proofs.Onward.{second-half-done, as_is, call3-writes, refused-first, handed-on, synthesised-by}
+use Rattle.frame.specs.Written.{first_in}
+use Rattle.rules.proofs.Tests.{tests, answered_no, answered_yes}
+use Rattle.halves.specs.Halves.{synthesised, second_half}
+use Rattle.halves.proofs.Onward.{second_half_done, as_is, call3_writes, refused_first, handed_on, synthesised_by}
 use Rattle.halves.proofs.second.second_half.Statement.{statement}
 use Rattle.halves.proofs.second.second_half.Tie as tie
 
 returns : tie.Need-returns
-unfolding secondHalf
+unfolding second_half
 returns c = search tests
 
 returns-2 : tie.Need-returns-2
-unfolding secondHalf
+unfolding second_half
 returns-2 c = search tests
 
 returns-3 : tie.Need-returns-3
-unfolding secondHalf
+unfolding second_half
 returns-3 c = search tests
 
 returns-4 : tie.Need-returns-4
-unfolding secondHalf
+unfolding second_half
 returns-4 c = search tests
 
 returns-5 : tie.Need-returns-5
@@ -31,13 +31,13 @@ returns-5 c =
     let l = w.before.before.before.before.before in
     let a = l.before.before.before.before.before.before.before.before.before.before.before.before.args in
     as_is
-    (second-half-done a.share.now (omega arith) a.hearing a.logs.now a.model.now
+    (second_half_done a.share.now (omega arith) a.hearing a.logs.now a.model.now
     (length a.out.now)
     (omega arith) (omega arith) (omega arith) l.look-back.ensures)
-    (refused-first w.call3.ensures (call3-writes _ _ _ _ _ _)
-    (λ f. synthesised f.answer f.kept a.hearing.way (firstIn f.written) (length a.out.now))
+    (refused_first w.call3.ensures (call3_writes _ _ _ _ _ _)
+    (λ f. synthesised f.answer f.kept a.hearing.way (first_in f.written) (length a.out.now))
     (a.out.now ∷ [])
-    (answered-no c.before.passed.ensures c.if5.true))
+    (answered_no c.before.passed.ensures c.if5.true))
 
 returns-6 : tie.Need-returns-6
 returns-6 c =
@@ -50,17 +50,17 @@ returns-6 c =
     let few = l.before.before.before.before.before.before.if2.false in
     let room = l.before.before.before.before.before.if3.false in
     let inside = l.before.before.before.if4.false in
-    let yes = answered-yes e.before.passed.ensures e.if5.false in
+    let yes = answered_yes e.before.passed.ensures e.if5.false in
     as_is
-    (second-half-done a.share.now (omega (arith, whole)) a.hearing a.logs.now a.model.now
+    (second_half_done a.share.now (omega (arith, whole)) a.hearing a.logs.now a.model.now
     (length a.out.now)
     (omega (arith, few)) (omega (arith, room)) (omega (arith, inside)) l.look-back.ensures
-    ∙ handed-on w.call3.ensures (call3-writes _ _ _ _ _ _) yes
+    ∙ handed_on w.call3.ensures (call3_writes _ _ _ _ _ _) yes
     (λ reply share spectrum. synthesised reply share a.hearing.way spectrum (length a.out.now)))
-    (synthesised-by _ _ _ _ n.synthesise.ensures)
+    (synthesised_by _ _ _ _ n.synthesise.ensures)
 
-pub second-half-spec : {M : Type 1} → statement M
-second-half-spec =
+pub second_half_spec : {M : Type 1} → statement M
+second_half_spec =
     tie.close
     (tie.spec
     returns

@@ -14,8 +14,8 @@ returns c =
     as_is (ap (λ (x : List Float). call4 a.share.now x (length a.out.now)) (sym f.inverse.ensures))
     o.call4.ensures
 
-pub synthesise-spec : {M : Type 1} → statement M
-synthesise-spec =
+pub synthesise_spec : {M : Type 1} → statement M
+synthesise_spec =
     tie.close
     (tie.spec
     (λ c. search rules)  -- slice-aggregate-inverse

@@ -3,13 +3,13 @@ use mathlib.Core.Path.{refl}
 use native.Mathlib.Omega.{arith}
 use borrow.Author.Rules.{rules}
 use Rattle.rules.specs.Place.{get}
-use Rattle.halves.specs.Ways.{lagBy, remembered}
+use Rattle.halves.specs.Ways.{lag_by, remembered}
 use Rattle.halves.proofs.Sister.{found}
 use Rattle.halves.proofs.ways.lag.Statement.{statement}
 use Rattle.halves.proofs.ways.lag.Tie as tie
 
 returns : tie.Need-returns
-unfolding lagBy remembered get
+unfolding lag_by remembered get
 returns c =
     let a = c.before.before.before.before.before.before.before.args in
     rw c.before.before.before.before.enum_told.given.1
@@ -18,8 +18,8 @@ returns c =
 returns-2 : tie.Need-returns-2
 returns-2 c = rw c.before.before.before.before.enum-told2.given.1 c.before.before.find.ensures
 
-pub lag-spec : {M : Type 1} → statement M
-lag-spec =
+pub lag_spec : {M : Type 1} → statement M
+lag_spec =
     tie.close
     (tie.spec
     (λ c. search rules)  -- enum_told

@@ -1,14 +1,14 @@
 -- `logs::table::row_at` meets its contract: each arm by its key. Assumes nothing.
 use native.Mathlib.Nat.{le_antisymm}
 use lib.Ieee.{neg}
-use Rattle.logs.specs.Tables.{rowBits, rows, row_at}
+use Rattle.logs.specs.Tables.{row_bits, rows, row_at}
 use Rattle.rules.proofs.Tests.{keyed, past}
 use Rattle.logs.proofs.table.row_at.Statement.{statement}
 use Rattle.logs.proofs.table.row_at.Tie as tie
 
-pub row-at-spec : {M : Type 1} → statement M
-unfolding rows rowBits neg
-row-at-spec =
+pub row_at_spec : {M : Type 1} → statement M
+unfolding rows row_bits neg
+row_at_spec =
     tie.close
     (tie.spec
     (λ c. keyed row_at c.match.keys1)

@@ -16,7 +16,7 @@ use Rattle.walks.proofs.Names.{use1, use2, split, fsplit, fjoin, feq_l, suffices
 use Rattle.walks.proofs.Names.{look, init, stop, hop, fld, from, addr, of_opd, and_then, no_more, returns, enter}
 use Rattle.walks.proofs.Names.{alloc1, alloc0, params1, pass1, pass0, free0, uint_vals, uint_Lawful, u32, f32, RefT}
 use Rattle.walks.proofs.Names.{now, slice-vals, ShrSlice, Room, finally, nothing, Args, Contract, Clauses, says, yes}
-use Rattle.walks.proofs.Walk.{shared, handed, Params, machine, owning, promise, entry, exit, ends, runsAs, meets}
+use Rattle.walks.proofs.Walk.{shared, handed, Params, machine, owning, promise, entry, exit, ends, runs_as, meets}
 use Rattle.walks.proofs.Steps.{brings, asks, tokens, arg, part, sets, gets, counts, twice, swap, gone}
 use Rattle.matrix.specs.Sums.{MulAdd}
 use Rattle.matrix.specs.declared.SubMatrix.{SubMatrix}
@@ -36,11 +36,11 @@ module _ {M : Type 1} {𝓤 : Ura M} (𝓛 : Logic 𝓤) (𝓜 : Model 𝓤 𝓛
   abbrev c : Clauses 𝓤 mul-add.ended
   c = mul-add.clauses 𝓛 𝓜.mem 𝓡.run
 
-  abbrev c-core : Clauses 𝓤 core.ended
-  c-core = core.clauses 𝓛 𝓜.mem 𝓡.run
+  abbrev c_core : Clauses 𝓤 core.ended
+  c_core = core.clauses 𝓛 𝓜.mem 𝓡.run
 
   abbrev Core : Contract 𝓤
-  Core = promise 𝓛 core.ended c-core
+  Core = promise 𝓛 core.ended c_core
 
   module _ (κs : Lfts 3) (qs : Shares 3) (d : SubMatrix) (y z : Bor (List Float)) where
     abbrev a : Args mul-add.signature κs
@@ -103,7 +103,7 @@ module _ {M : Type 1} {𝓤 : Ura M} (𝓛 : Logic 𝓤) (𝓜 : Model 𝓤 𝓛
 
     walk : Holds (has_ty (T'.mir (named 0)) (T'.lowered d)) × WT (T'.lowered d) → Room f32 (length (now y))
         → Room f32 (length (now z))
-        → ent 𝓤 In (runsAs 𝓛 𝓜 𝓡 code.env code.function (machine mul-add.ended ps κs a) Out)
+        → ent 𝓤 In (runs_as 𝓛 𝓜 𝓡 code.env code.function (machine mul-add.ended ps κs a) Out)
     walk wt roomₒ roomᵢ =
         qed 𝓛 (raw In ∷ []) ∵ enter ! _ _ code.function (machine mul-add.ended ps κs a) _ $
         alloc1 ! (λ l₀.
@@ -123,7 +123,7 @@ module _ {M : Type 1} {𝓤 : Ura M} (𝓛 : Logic 𝓤) (𝓜 : Model 𝓤 𝓛
         move ! (18 ∷ []) $ use1 𝓛 (raw (Core.pre to) ⊛ kept) (goes wt.1.1.0.fits wt.1.1.1.0.fits) $
         split ! $
         -- [what is asked; what is kept; _8; …]
-        asks ! 𝓡 code.env core.ended c-core code.calls-matrix::sums::mul-add (core-thm.met 𝓤 𝓛 𝓜 𝓡) to
+        asks ! 𝓡 code.env core.ended c_core code.calls-matrix::sums::mul-add (core-thm.met 𝓤 𝓛 𝓜 𝓡) to
         (λ r ws. Said r ws.0) (λ r ws. id⊢ 𝓤 _)
         (arg ! 8 refl (arg ! 6 refl (arg ! 4 refl (arg ! 2 refl (arg ! 12 refl (no_more !)))))) (λ u r ws e is.
         -- [the result; the tokens; the last list, and its length; what is kept; _8; …]
@@ -133,9 +133,9 @@ module _ {M : Type 1} {𝓤 : Ura M} (𝓛 : Logic 𝓤) (𝓜 : Model 𝓤 𝓛
         gone ! 11 refl refl $ gone ! 9 refl refl $ gone ! 7 refl refl $ gone ! 5 refl refl $ free0 ! $
         keep ! (3 ∷ 4 ∷ 0 ∷ 2 ∷ []) $ by ! (exits u r ws.0 e l))))))))))))
 
-pub mul-add-spec : {M : Type 1} → stated.statement M
+pub mul_add_spec : {M : Type 1} → stated.statement M
 unfolding code.routine
-mul-add-spec 𝓤 𝓛 𝓜 𝓡 =
+mul_add_spec 𝓤 𝓛 𝓜 𝓡 =
     meets 𝓛 𝓜 𝓡 code.env mul-add.ended ps (c 𝓛 𝓜 𝓡) #matrix·mul-add code.function (code.unfolded 𝓤 𝓛.H 𝓜 𝓡)
     (λ κs qs bounds a g are. via 𝓤 _ (fst∗ 𝓤 _ (emp 𝓤))
     (walk 𝓛 𝓜 𝓡 κs qs a.0 a.1.0 a.1.1.0 (typed (W 𝓛 𝓜 𝓡) 3 0 tt κs a.0 (named 0) _ are.0)

@@ -2,9 +2,9 @@
 use Rattle.rules.proofs.Common.{ℕ, ◌+◌, ◌-◌, ◌%◌, ◌≤◌, ◌<◌, ◌++◌, ◌≡◌, refl, ap, ◌∙◌, length, drop}
 use native.Mathlib.Omega.{arith}
 use Rattle.rules.specs.Tab.{tab}
-use Rattle.rules.proofs.Lists.{tab-none, tab-done}
-use Rattle.matrix.specs.Private.{neuron, spot, sixteenSums}
-use Rattle.matrix.proofs.Neurons.{block-kept}
+use Rattle.rules.proofs.Lists.{tab_none, tab_done}
+use Rattle.matrix.specs.Private.{neuron, spot, sixteen_sums}
+use Rattle.matrix.proofs.Neurons.{block_kept}
 use Rattle.matrix.proofs.lanes.blocks.Statement.{statement}
 use Rattle.matrix.proofs.lanes.blocks.Tie as tie
 
@@ -74,9 +74,9 @@ loop-again c =
     let three = t.give3 in
     let four = d.give4 in
     let same = g.sums.ensures
-    ∙ ap (sixteenSums a.weights.now a.stride (a.offset + l.a) a.input.now (length a.input.now))
+    ∙ ap (sixteen_sums a.weights.now a.stride (a.offset + l.a) a.input.now (length a.input.now))
     g.before.take-sixteen.ensures in
-    let kept = block-kept a.weights.now a.stride a.offset a.input.now a.out.now l.a l.invariant.1
+    let kept = block_kept a.weights.now a.stride a.offset a.input.now a.out.now l.a l.invariant.1
     a.kept.now l.auto
     (omega (arith, inside, start.requires.places)) l.invariant.3 same one.ensures two.ensures three.ensures
     four.ensures in (
@@ -86,13 +86,13 @@ loop-again c =
       kept,
     )
 
-pub blocks-spec : {M : Type 1} → statement M
-blocks-spec =
+pub blocks_spec : {M : Type 1} → statement M
+blocks_spec =
     tie.close
     (tie.spec
     invariant-loop
     decreases-loop
-    (λ c. (omega arith, refl, refl, tab-none _ _))  -- loop-holds
+    (λ c. (omega arith, refl, refl, tab_none _ _))  -- loop-holds
     (λ c. omega (arith, room c))  -- add-b
     (λ c. omega (arith, room c))  -- add-c
     (λ c. omega (arith, room c))  -- add-d
@@ -110,5 +110,5 @@ blocks-spec =
     loop-again
     (λ c. c.before.loop.invariant.2)  -- same-length
     (λ c. c.before.loop.invariant.3
-    ∙ tab-done _ _ _ _ (omega arith)
+    ∙ tab_done _ _ _ _ (omega arith)
     (omega (arith, c.before.before.before.before.before.before.requires.places))))  -- returns

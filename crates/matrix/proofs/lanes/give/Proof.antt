@@ -2,12 +2,12 @@
 use native.Mathlib.Omega.{arith}
 use lib.ListN.{length-set}
 use borrow.Author.Rules.{rules}
-use Rattle.matrix.specs.Private.{storeFour}
+use Rattle.matrix.specs.Private.{store_four}
 use Rattle.matrix.proofs.lanes.give.Statement.{statement}
 use Rattle.matrix.proofs.lanes.give.Tie as tie
 
 pub give_spec : {M : Type 1} → statement M
-unfolding storeFour
+unfolding store_four
 give_spec =
     tie.close
     (tie.spec

@@ -3,9 +3,9 @@ use Rattle.rules.proofs.Common.{ℕ, ◌+◌, ◌-◌, ◌%◌, ◌≤◌, ◌<�
 use native.Mathlib.Omega.{arith}
 use Rattle.rules.specs.F32.{at}
 use Rattle.rules.specs.Tab.{tab}
-use Rattle.rules.proofs.Lists.{tab-none, tab-done}
+use Rattle.rules.proofs.Lists.{tab_none, tab_done}
 use Rattle.matrix.specs.Private.{spot}
-use Rattle.matrix.proofs.Neurons.{block-ordered}
+use Rattle.matrix.proofs.Neurons.{block_ordered}
 use Rattle.matrix.proofs.lanes.ordered.Statement.{statement}
 use Rattle.matrix.proofs.lanes.ordered.Tie as tie
 
@@ -35,7 +35,7 @@ loop-again c =
     let three = t.back3 in
     let four = d.back4 in
     let done =
-    block-ordered start.args.kept.now start.args.out.now l.out l.a l.invariant.1 inside l.invariant.3
+    block_ordered start.args.kept.now start.args.out.now l.out l.a l.invariant.1 inside l.invariant.3
     one.ensures two.ensures three.ensures four.ensures in (
       omega (arith, inside, start.requires.0),
       omega (arith, l.invariant.1),
@@ -61,13 +61,13 @@ back-requires-4 c κs =
     let fit = places f.before.before in
     (omega (arith, fit.0, t.back3.auto.0, s.back2.auto.0, f.back.auto.0), omega (arith, fit.1))
 
-pub ordered-spec : {M : Type 1} → statement M
-ordered-spec =
+pub ordered_spec : {M : Type 1} → statement M
+ordered_spec =
     tie.close
     (tie.spec
     invariant-loop
     decreases-loop
-    (λ c. (omega arith, refl, refl, tab-none _ _))  -- loop-holds
+    (λ c. (omega arith, refl, refl, tab_none _ _))  -- loop-holds
     (λ c. omega arith)  -- add-b
     (λ c. omega arith)  -- add-c
     (λ c. omega arith)  -- add-d
@@ -86,4 +86,4 @@ ordered-spec =
     (λ c. omega arith)  -- loop-less
     loop-again
     (λ c. c.before.loop.invariant.2)  -- same-length
-    (λ c. c.before.loop.invariant.3 ∙ tab-done _ _ _ _ (omega arith) (omega arith)))  -- returns
+    (λ c. c.before.loop.invariant.3 ∙ tab_done _ _ _ _ (omega arith) (omega arith)))  -- returns

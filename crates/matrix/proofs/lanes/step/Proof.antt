@@ -1,11 +1,11 @@
 -- `matrix::lanes::step` meets its contract. Assumes nothing.
 use borrow.Author.Rules.{rules}
-use Rattle.matrix.specs.Private.{plusSixteen}
+use Rattle.matrix.specs.Private.{plus_sixteen}
 use Rattle.matrix.proofs.lanes.step.Statement.{statement}
 use Rattle.matrix.proofs.lanes.step.Tie as tie
 
 pub step_spec : {M : Type 1} → statement M
-unfolding plusSixteen
+unfolding plus_sixteen
 step_spec =
     tie.close
     (tie.spec

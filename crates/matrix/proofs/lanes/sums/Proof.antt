@@ -3,14 +3,14 @@ use Rattle.rules.proofs.Common.{◌+◌, ◌-◌, ◌*◌, ◌≤◌, ◌≡◌,
 use native.Mathlib.Omega.{arith}
 use Rattle.rules.proofs.Loops.{turns}
 use Rattle.rules.proofs.Numbers.{row_fits}
-use Rattle.matrix.specs.Private.{sixteenSums}
-use Rattle.matrix.proofs.Neurons.{sums_none, sums-more, sums-ended}
+use Rattle.matrix.specs.Private.{sixteen_sums}
+use Rattle.matrix.proofs.Neurons.{sums_none, sums_more, sums_ended}
 use Rattle.matrix.proofs.lanes.sums.Statement.{statement}
 use Rattle.matrix.proofs.lanes.sums.Tie as tie
 
 abbrev invariant-loop : tie.invariant-loop
 invariant-loop weights stride place input r₀ i₀ i-end r i =
-    (i ≤ i-end) × (i-end ≡ length input) × (r ≡ sixteenSums weights stride place input i r₀)
+    (i ≤ i-end) × (i-end ≡ length input) × (r ≡ sixteen_sums weights stride place input i r₀)
 
 abbrev decreases-loop : tie.decreases-loop
 decreases-loop weights stride place input r₀ i₀ i-end r i = i-end - i
@@ -23,10 +23,10 @@ room c = row_fits c.loop-test.true _
 loop-again : tie.Need-loop-preserved invariant-loop decreases-loop
 loop-again c =
     let l = c.before.before.before.loop in
-    (omega arith, l.invariant.1, sums-more _ _ _ _ _ _ l.invariant.2 c.step.ensures)
+    (omega arith, l.invariant.1, sums_more _ _ _ _ _ _ l.invariant.2 c.step.ensures)
 
-pub sums-spec : {M : Type 1} → statement M
-sums-spec =
+pub sums_spec : {M : Type 1} → statement M
+sums_spec =
     tie.close
     (tie.spec
     invariant-loop
@@ -40,4 +40,4 @@ sums-spec =
     (λ c. search turns)  -- add-i
     (λ c. search turns)  -- loop-less
     loop-again
-    (λ c. sums-ended _ _ _ _ _ _ _ (omega arith) (omega arith) c.before.loop.invariant.2))  -- returns
+    (λ c. sums_ended _ _ _ _ _ _ _ (omega arith) (omega arith) c.before.loop.invariant.2))  -- returns

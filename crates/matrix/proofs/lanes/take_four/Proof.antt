@@ -1,13 +1,13 @@
 -- `matrix::lanes::take_four` meets its contract. Assumes nothing.
 use mathlib.Core.Path.{refl}
 use borrow.Author.Rules.{rules}
-use Rattle.matrix.specs.Private.{fourAt}
+use Rattle.matrix.specs.Private.{four_at}
 use Rattle.matrix.proofs.lanes.take_four.Statement.{statement}
 use Rattle.matrix.proofs.lanes.take_four.Tie as tie
 
-pub take-four-spec : {M : Type 1} → statement M
-unfolding fourAt
-take-four-spec =
+pub take_four_spec : {M : Type 1} → statement M
+unfolding four_at
+take_four_spec =
     tie.close
     (tie.spec
     (λ c. search rules)  -- mul-t3

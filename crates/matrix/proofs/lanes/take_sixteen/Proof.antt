@@ -1,12 +1,12 @@
 -- `matrix::lanes::take_sixteen` meets its contract. Assumes nothing.
 use borrow.Author.Rules.{rules}
-use Rattle.matrix.specs.Private.{sixteenAt}
+use Rattle.matrix.specs.Private.{sixteen_at}
 use Rattle.matrix.proofs.lanes.take_sixteen.Statement.{statement}
 use Rattle.matrix.proofs.lanes.take_sixteen.Tie as tie
 
-pub take-sixteen-spec : {M : Type 1} → statement M
-unfolding sixteenAt
-take-sixteen-spec =
+pub take_sixteen_spec : {M : Type 1} → statement M
+unfolding sixteen_at
+take_sixteen_spec =
     tie.close
     (tie.spec
     (λ c κs. search rules)  -- take-four-requires

@@ -1,7 +1,7 @@
 -- `matrix::lanes::wide` meets its contract. Assumes nothing.
 use mathlib.Core.Path.{◌∙◌}
 use borrow.Author.Rules.{rules}
-use Rattle.matrix.proofs.Neurons.{both-orders}
+use Rattle.matrix.proofs.Neurons.{both_orders}
 use Rattle.matrix.proofs.lanes.wide.Statement.{statement}
 use Rattle.matrix.proofs.lanes.wide.Tie as tie
 
@@ -18,6 +18,6 @@ wide_spec =
     (λ c. search rules)  -- same-length
     (λ c. search rules)  -- same-length-2
     (λ c.
-    both-orders
+    both_orders
     _ _ _ c.before.before.before.before.before.before.before.before.before.before.before.before.before.before.requires.even c.before.before.before.before.before.before.before.blocks2.ensures
     c.before.before.ordered.ensures))  -- returns

@@ -3,13 +3,13 @@ use Rattle.rules.proofs.Common.{◌-◌, ◌≤◌, ◌≡◌, length, length-se
 use native.Mathlib.Omega.{arith}
 use Rattle.rules.specs.Loop.{loop}
 use Rattle.rules.proofs.Loops.{turns, more, ended}
-use Rattle.matrix.proofs.Columns.{twoStep, two-columns}
+use Rattle.matrix.proofs.Columns.{two_step, two_columns}
 use Rattle.matrix.proofs.sums.add_two.Statement.{statement}
 use Rattle.matrix.proofs.sums.add_two.Tie as tie
 
 abbrev invariant-loop : tie.invariant-loop
 invariant-loop out₀ first x second y j₀ j-end out j =
-    (j ≤ j-end) × (j-end ≡ length out₀) × (length out ≡ length out₀) × (out ≡ loop j (twoStep first x second y) out₀)
+    (j ≤ j-end) × (j-end ≡ length out₀) × (length out ≡ length out₀) × (out ≡ loop j (two_step first x second y) out₀)
 
 abbrev decreases-loop : tie.decreases-loop
 decreases-loop out₀ first x second y j₀ j-end out j = j-end - j
@@ -27,11 +27,11 @@ returns : tie.Need-returns invariant-loop decreases-loop
 returns c =
     let a = c.before.before.before.before.before.args in
     let l = c.before.loop in
-    two-columns a.out.now a.first.now a.x a.second.now a.y
+    two_columns a.out.now a.first.now a.x a.second.now a.y
     (ended _ _ _ _ (omega arith) (omega arith) l.invariant.3)
 
-pub add-two-spec : {M : Type 1} → statement M
-add-two-spec =
+pub add_two_spec : {M : Type 1} → statement M
+add_two_spec =
     tie.close
     (tie.spec
     invariant-loop

@@ -2,7 +2,7 @@
 use Rattle.rules.proofs.Common.{◌-◌, length}
 use native.Mathlib.Omega.{arith}
 use borrow.Author.Rules.{rules}
-use Rattle.matrix.proofs.Neurons.{rest-fits, both-parts, front-alone}
+use Rattle.matrix.proofs.Neurons.{rest_fits, both_parts, front_alone}
 use Rattle.matrix.proofs.sums.both.Statement.{statement}
 use Rattle.matrix.proofs.sums.both.Tie as tie
 
@@ -12,7 +12,7 @@ columns-requires c κs =
     c.before.before.before.before.before.before.before.before.before.before.before.before.before in
     let a = start.args in
     let m = length a.kept.now in
-    rest-fits a.weights.now a.stride a.offset a.input.now a.out.now m (m - 0) (omega arith)
+    rest_fits a.weights.now a.stride a.offset a.input.now a.out.now m (m - 0) (omega arith)
     start.pre.0 _ c.before.before.before.before.before.before.wide.ensures start.pre.2
 
 returns : tie.Need-returns
@@ -21,7 +21,7 @@ returns c =
     c.before.before.before.before.before.before.before.before.before.before.before.before.before.before.before.before in
     let a = start.args in
     let m = length a.kept.now in
-    both-parts a.weights.now a.stride a.offset a.input.now a.out.now m (m - 0) (omega arith)
+    both_parts a.weights.now a.stride a.offset a.input.now a.out.now m (m - 0) (omega arith)
     start.pre.0 _ c.before.before.before.before.before.before.before.before.before.wide.ensures
     start.pre.2 c.before.before.columns.ensures
 
@@ -30,12 +30,12 @@ returns-2 c =
     let start = c.before.before.before.before.before.before.before.before.before.before.before.before in
     let a = start.args in
     let m = length a.kept.now in
-    front-alone a.weights.now a.stride a.offset a.input.now a.out.now m (m - 0) (omega arith)
+    front_alone a.weights.now a.stride a.offset a.input.now a.out.now m (m - 0) (omega arith)
     start.requires.0 _ c.before.before.before.before.before.wide.ensures start.requires.2
     (omega (arith, c.if1.false))
 
-pub both-spec : {M : Type 1} → statement M
-both-spec =
+pub both_spec : {M : Type 1} → statement M
+both_spec =
     tie.close
     (tie.spec
     (λ c. search rules)  -- add-from

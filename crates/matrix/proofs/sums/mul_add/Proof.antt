@@ -14,8 +14,8 @@ core-requires c κs =
     let product = c.before.before.is-product in
     record { rows = omega arith; columns = eqb-true _ _ (sym product.ensures ∙ not-false _ c.before.if3.false) }
 
-pub mul-add-spec : {M : Type 1} → statement M
-mul-add-spec =
+pub mul_add_spec : {M : Type 1} → statement M
+mul_add_spec =
     tie.close
     (tie.spec
     (λ c. refused (λ fits. omega arith) refl)  -- returns

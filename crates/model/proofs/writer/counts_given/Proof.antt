@@ -1,5 +1,5 @@
 use borrow.Author.Rules.{rules}
-use Rattle.model.proofs.Given.{six-counts}
+use Rattle.model.proofs.Given.{six_counts}
 use Rattle.model.proofs.writer.counts_given.Statement.{statement}
 use Rattle.model.proofs.writer.counts_given.Tie as tie
 
@@ -17,10 +17,10 @@ returns c =
       h4.counts-there4.ensures,
       h5.counts-there5.ensures,
       c.counts-there6.ensures,
-    ) (six-counts h1.before.before.args.shapes.now)
+    ) (six_counts h1.before.before.args.shapes.now)
 
-pub counts-given-spec : {M : Type 1} → statement M
-counts-given-spec =
+pub counts_given_spec : {M : Type 1} → statement M
+counts_given_spec =
     tie.close
     (tie.spec
     (λ c κs. search rules)  -- counts-there-requires

@@ -2,8 +2,8 @@ use borrow.Author.Rules.{rules}
 use Rattle.model.proofs.writer.counts_there.Statement.{statement}
 use Rattle.model.proofs.writer.counts_there.Tie as tie
 
-pub counts-there-spec : {M : Type 1} → statement M
-counts-there-spec =
+pub counts_there_spec : {M : Type 1} → statement M
+counts_there_spec =
     tie.close
     (tie.spec
     (λ c. search rules)  -- mul-wide

@@ -2,7 +2,7 @@
 use Rattle.rules.proofs.Common.{◌+◌, sym, ◌∙◌}
 use borrow.Author.Rules.{rules}
 use Rattle.rules.specs.Lists.{sum}
-use Rattle.model.proofs.Accepted.{bad-rows, clear-rows, bad-model, good-model, few-given}
+use Rattle.model.proofs.Accepted.{bad_rows, clear_rows, bad_model, good_model, few_given}
 use Rattle.model.proofs.writer.fault_of.Statement.{statement}
 use Rattle.model.proofs.writer.fault_of.Tie as tie
 
@@ -10,17 +10,17 @@ returns : tie.Need-returns
 returns c =
     let lf = c.before in
     let start = lf.before.before in
-    bad-rows start.args.shapes.now start.args.lengths (18 + sum start.args.lengths) start.args.buffer
+    bad_rows start.args.shapes.now start.args.lengths (18 + sum start.args.lengths) start.args.buffer
     lf.layers-fault.ensures c.if1.true
 
 model-fault-requires : tie.Need-model-fault-requires
 model-fault-requires c κs =
     let lf = c.before.before in
     let start = lf.before.before in
-    let clear = clear-rows start.args.shapes.now start.args.lengths (18 + sum start.args.lengths)
+    let clear = clear_rows start.args.shapes.now start.args.lengths (18 + sum start.args.lengths)
     start.args.buffer lf.layers-fault.ensures c.before.if1.false in
     rw c.counts-given.ensures
-    (few-given start.args.shapes.now start.args.lengths (18 + sum start.args.lengths)
+    (few_given start.args.shapes.now start.args.lengths (18 + sum start.args.lengths)
     start.args.buffer clear)
 
 returns-2 : tie.Need-returns-2
@@ -29,9 +29,9 @@ returns-2 c =
     let mg = mf.before in
     let lf = mg.before.before in
     let start = lf.before.before in
-    let clear = clear-rows start.args.shapes.now start.args.lengths (18 + sum start.args.lengths)
+    let clear = clear_rows start.args.shapes.now start.args.lengths (18 + sum start.args.lengths)
     start.args.buffer lf.layers-fault.ensures mg.before.if1.false in
-    bad-model start.args.shapes.now start.args.lengths (18 + sum start.args.lengths)
+    bad_model start.args.shapes.now start.args.lengths (18 + sum start.args.lengths)
     start.args.buffer clear (rw mg.counts-given.ensures at mf.model-fault.ensures) c.if2.true
 
 returns-3 : tie.Need-returns-3
@@ -41,9 +41,9 @@ returns-3 c =
     let mg = mf.before in
     let lf = mg.before.before in
     let start = lf.before.before in
-    let clear = clear-rows start.args.shapes.now start.args.lengths (18 + sum start.args.lengths)
+    let clear = clear_rows start.args.shapes.now start.args.lengths (18 + sum start.args.lengths)
     start.args.buffer lf.layers-fault.ensures mg.before.if1.false in
-    sym (good-model start.args.shapes.now start.args.lengths (18 + sum start.args.lengths)
+    sym (good_model start.args.shapes.now start.args.lengths (18 + sum start.args.lengths)
     start.args.buffer clear (rw mg.counts-given.ensures at mf.model-fault.ensures) ts.before.if2.false
     ∙ rw (sym ts.too_short.ensures ∙ c.if3.true))
 
@@ -54,14 +54,14 @@ returns-4 c =
     let mg = mf.before in
     let lf = mg.before.before in
     let start = lf.before.before in
-    let clear = clear-rows start.args.shapes.now start.args.lengths (18 + sum start.args.lengths)
+    let clear = clear_rows start.args.shapes.now start.args.lengths (18 + sum start.args.lengths)
     start.args.buffer lf.layers-fault.ensures mg.before.if1.false in
-    sym (good-model start.args.shapes.now start.args.lengths (18 + sum start.args.lengths)
+    sym (good_model start.args.shapes.now start.args.lengths (18 + sum start.args.lengths)
     start.args.buffer clear (rw mg.counts-given.ensures at mf.model-fault.ensures) ts.before.if2.false
     ∙ rw (sym ts.too_short.ensures ∙ c.if3.false))
 
-pub fault-of-spec : {M : Type 1} → statement M
-fault-of-spec =
+pub fault_of_spec : {M : Type 1} → statement M
+fault_of_spec =
     tie.close
     (tie.spec
     (λ c κs. search rules)  -- layers-fault-requires

@@ -1,7 +1,7 @@
 use Prim.Native.Nat.{◌+◌}
 use native.Mathlib.Omega.{arith}
 use borrow.Author.Rules.{rules}
-use Rattle.model.specs.Private.{headerBytes}
+use Rattle.model.specs.Private.{header_bytes}
 use Rattle.model.proofs.writer.header_bytes.Statement.{statement}
 use Rattle.model.proofs.writer.header_bytes.Tie as tie
 
@@ -15,11 +15,11 @@ cast-t16 : tie.Need-overflow-cast-t16
 cast-t16 c = let b = c.before.before.before in omega (arith, b.requires.1 (b.args.first + 2))
 
 returns : tie.Need-returns
-unfolding headerBytes
+unfolding header_bytes
 returns c = search rules
 
-pub header-bytes-spec : {M : Type 1} → statement M
-header-bytes-spec =
+pub header_bytes_spec : {M : Type 1} → statement M
+header_bytes_spec =
     tie.close
     (tie.spec
     (λ c. search rules)  -- mul-t3

@@ -2,14 +2,14 @@
 use Rattle.rules.proofs.Common.{◌-◌, ◌≤◌, ◌≡◌, sym, ◌∙◌}
 use native.Mathlib.Omega.{arith}
 use borrow.Author.Rules.{rules}
-use Rattle.model.specs.Private.{faultIn}
-use Rattle.model.proofs.Given.{rows_from, stopped, on, fault-small, none-behind}
+use Rattle.model.specs.Private.{fault_in}
+use Rattle.model.proofs.Given.{rows_from, stopped, on, fault_small, none_behind}
 use Rattle.model.proofs.writer.layers_fault.Statement.{statement}
 use Rattle.model.proofs.writer.layers_fault.Tie as tie
 
 abbrev invariant-loop : tie.invariant-loop
 invariant-loop shapes lengths kinds layer₀ layer =
-    (layer ≤ 6) × (faultIn (rows_from shapes lengths 0) ≡ faultIn (rows_from shapes lengths layer))
+    (layer ≤ 6) × (fault_in (rows_from shapes lengths 0) ≡ fault_in (rows_from shapes lengths layer))
 
 abbrev decreases-loop : tie.decreases-loop
 decreases-loop shapes lengths kinds layer₀ layer = 6 - layer
@@ -26,7 +26,7 @@ add-result c =
     lf.layer-fault.ensures in
     omega (
       arith,
-      fault-small start.args.shapes.now start.args.t2 start.requires (search rules) l.loop.layer
+      fault_small start.args.shapes.now start.args.t2 start.requires (search rules) l.loop.layer
           (omega arith) e,
     )
 
@@ -63,10 +63,10 @@ returns-2 c =
     let l = c.before in
     let six : l.loop.layer ≡ 6 = omega arith in
     let start = l.before.before.before in
-    sym (rw six at l.loop.invariant.1 ∙ none-behind start.args.shapes.now start.args.t2)
+    sym (rw six at l.loop.invariant.1 ∙ none_behind start.args.shapes.now start.args.t2)
 
-pub layers-fault-spec : {M : Type 1} → statement M
-layers-fault-spec =
+pub layers_fault_spec : {M : Type 1} → statement M
+layers_fault_spec =
     tie.close
     (tie.spec
     invariant-loop

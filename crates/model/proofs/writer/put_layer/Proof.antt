@@ -1,22 +1,22 @@
 -- The header and three arrays, one behind the other. Assumes nothing.
 use mathlib.Core.List.{◌++◌}
 use borrow.Author.Rules.{rules}
-use Rattle.model.specs.Private.{headerBytes, layerBytes}
+use Rattle.model.specs.Private.{header_bytes, layer_bytes}
 use Rattle.model.proofs.Over.{front, behind, both}
 use Rattle.model.proofs.writer.put_layer.Statement.{statement}
 use Rattle.model.proofs.writer.put_layer.Tie as tie
 
 put-requires : tie.Need-put-requires
-unfolding layerBytes
+unfolding layer_bytes
 put-requires c κs =
     let start = c.before.before.before.before.before.before.before.before in
     let a = start.args in
     rw c.before.before.header-bytes.ensures
-    (front a.at (headerBytes a.shapes.now a.first)
+    (front a.at (header_bytes a.shapes.now a.first)
     (a.weights.now ++ (a.recurrent.now ++ a.bias.now)) _ start.requires.2)
 
 put-requires-2 : tie.Need-put-requires-2
-unfolding layerBytes
+unfolding layer_bytes
 put-requires-2 c κs =
     let start = c.before.before.before.before.before.before.before.before.before.before.before.before in
     let a = start.args in
@@ -26,7 +26,7 @@ put-requires-2 c κs =
     front _ a.weights.now (a.recurrent.now ++ a.bias.now) _ left
 
 put-requires-3 : tie.Need-put-requires-3
-unfolding layerBytes
+unfolding layer_bytes
 put-requires-3 c κs =
     let start =
     c.before.before.before.before.before.before.before.before.before.before.before.before.before.before.before.before in
@@ -39,7 +39,7 @@ put-requires-3 c κs =
     front _ a.recurrent.now a.bias.now _ left2
 
 put-requires-4 : tie.Need-put-requires-4
-unfolding layerBytes
+unfolding layer_bytes
 put-requires-4 c κs =
     let start =
     c.before.before.before.before.before.before.before.before.before.before.before.before.before.before.before.before.before.before.before.before in
@@ -54,7 +54,7 @@ put-requires-4 c κs =
     left3
 
 returns : tie.Need-returns
-unfolding layerBytes
+unfolding layer_bytes
 returns c =
     let start =
     c.before.before.before.before.before.before.before.before.before.before.before.before.before.before.before.before.before.before.before.before.before.before.before in
@@ -70,8 +70,8 @@ returns c =
     both one (a.weights.now ++ (a.recurrent.now ++ a.bias.now)) start.pre.2
     (both two (a.recurrent.now ++ a.bias.now) left (both three a.bias.now left2 four))
 
-pub put-layer-spec : {M : Type 1} → statement M
-put-layer-spec =
+pub put_layer_spec : {M : Type 1} → statement M
+put_layer_spec =
     tie.close
     (tie.spec
     (λ c κs. search rules)  -- header-bytes-requires

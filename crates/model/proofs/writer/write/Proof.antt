@@ -2,14 +2,14 @@
 use native.Mathlib.Omega.{arith}
 use borrow.Author.Rules.{rules}
 use borrow.Author.Tests.{ne_eqb}
-use Rattle.model.specs.Writer.{writeModel}
+use Rattle.model.specs.Writer.{write_model}
 use Rattle.model.proofs.Over.{front, behind, both}
-use Rattle.model.proofs.Accepted.{Arrays, head, tail, bytes-so, fits-so, refused-so, written-so}
+use Rattle.model.proofs.Accepted.{Arrays, head, tail, bytes_so, fits_so, refused_so, written_so}
 use Rattle.model.proofs.writer.write.Statement.{statement}
 use Rattle.model.proofs.writer.write.Tie as tie
 
 returns : tie.Need-returns
-unfolding writeModel
+unfolding write_model
 returns c = rw (ne_eqb _ 18 c.if1.true)
 
 returns-2 : tie.Need-returns-2
@@ -36,7 +36,7 @@ returns-2 c =
       b5 = a.b5.now;
     } in
     let s = a.shapes.now in
-    refused-so s x a.out.now f.before.if1.false f.fault-of.ensures c.if2.true
+    refused_so s x a.out.now f.before.if1.false f.fault-of.ensures c.if2.true
 
 put-three-requires : tie.Need-put-three-requires
 put-three-requires c κs =
@@ -63,9 +63,9 @@ put-three-requires c κs =
     } in
     let s = a.shapes.now in
     let bytes =
-    bytes-so s x a.out.now f.before.if1.false f.fault-of.ensures c.before.before.if2.false in
+    bytes_so s x a.out.now f.before.if1.false f.fault-of.ensures c.before.before.if2.false in
     let fits =
-    fits-so s x a.out.now f.before.if1.false f.fault-of.ensures c.before.before.if2.false in
+    fits_so s x a.out.now f.before.if1.false f.fault-of.ensures c.before.before.if2.false in
     (omega arith, bytes, front 0 (head s x) (tail s x) _ fits)
 
 put-three-requires-2 : tie.Need-put-three-requires-2
@@ -92,9 +92,9 @@ put-three-requires-2 c κs =
       b5 = a.b5.now;
     } in
     let s = a.shapes.now in
-    let bytes = bytes-so s x a.out.now f.before.if1.false f.fault-of.ensures
+    let bytes = bytes_so s x a.out.now f.before.if1.false f.fault-of.ensures
     c.before.before.before.before.before.before.before.before.if2.false in
-    let fits = fits-so s x a.out.now f.before.if1.false f.fault-of.ensures
+    let fits = fits_so s x a.out.now f.before.if1.false f.fault-of.ensures
     c.before.before.before.before.before.before.before.before.if2.false in
     (omega arith, bytes, behind c.before.before.before.before.before.put_three.ensures (tail s x) fits)
 
@@ -122,9 +122,9 @@ returns-3 c =
       b5 = a.b5.now;
     } in
     let s = a.shapes.now in
-    let fits = fits-so s x a.out.now f.before.if1.false f.fault-of.ensures
+    let fits = fits_so s x a.out.now f.before.if1.false f.fault-of.ensures
     c.before.before.before.before.before.before.before.before.before.before.before.if2.false in
-    written-so s x a.out.now f.before.if1.false f.fault-of.ensures
+    written_so s x a.out.now f.before.if1.false f.fault-of.ensures
     c.before.before.before.before.before.before.before.before.before.before.before.if2.false
     (both c.before.before.before.before.before.before.before.before.put_three.ensures (tail s x) fits
     c.before.before.put-three2.ensures)

@@ -2,7 +2,7 @@
 use mathlib.Core.Path.{refl, ◌∙◌}
 use native.Mathlib.Omega.{arith}
 use borrow.Author.Rules.{rules}
-use Rattle.network.proofs.Joined.{gate-fits, gru-joined}
+use Rattle.network.proofs.Joined.{gate_fits, gru_joined}
 use Rattle.network.proofs.layers.gru.Statement.{statement}
 use Rattle.network.proofs.layers.gru.Tie as tie
 
@@ -10,13 +10,13 @@ use Rattle.network.proofs.layers.gru.Tie as tie
 sums-requires : tie.Need-gate-sums-requires
 sums-requires c κs =
     let start = c.before.before.before.before.before.before.before.before.before.before in
-    gate-fits start.requires.0 start.requires.1.1.update refl (omega arith)
+    gate_fits start.requires.0 start.requires.1.1.update refl (omega arith)
 
 sums-requires-2 : tie.Need-gate-sums-requires-2
 sums-requires-2 c κs =
     let start =
     c.before.before.before.before.before.before.before.before.before.before.before.before.before.before.before.before.before.before.before in
-    gate-fits start.pre.0 start.pre.1.1.reset refl (omega arith)
+    gate_fits start.pre.0 start.pre.1.1.reset refl (omega arith)
 
 reset-requires : tie.Need-reset-requires
 reset-requires c κs =
@@ -31,7 +31,7 @@ sums-requires-3 c κs =
     let sums = reset.before.before.before.before.before in
     let start =
     sums.before.before.before.before.before.before.before.before.before.before.before.before.before.before.before.before.before.before.before.before in
-    gate-fits start.pre.0 start.pre.1.1.new
+    gate_fits start.pre.0 start.pre.1.1.new
     (reset.reset.auto.0 ∙ sums.gate-sums2.auto.0 ∙ start.pre.1.1.reset) (omega arith)
 
 blend-requires : tie.Need-blend-requires
@@ -63,14 +63,14 @@ returns c =
     let update-sums = update.before.before.before.before in
     let start = update-sums.before.before.before.before.before.before.before.before.before.before.before in
     let same = start.requires.1.1 in
-    gru-joined _ _ _ _ _ _ same.update update-sums.gate-sums.ensures
+    gru_joined _ _ _ _ _ _ same.update update-sums.gate-sums.ensures
     (update-sums.gate-sums.auto.0 ∙ same.update) update.update.ensures
     same.reset reset-sums.gate-sums2.ensures (reset-sums.gate-sums2.auto.0 ∙ same.reset)
     reset.reset.ensures
     same.new new.gate-sums3.ensures blend.blend.ensures
 
-pub gru-spec : {M : Type 1} → statement M
-gru-spec =
+pub gru_spec : {M : Type 1} → statement M
+gru_spec =
     tie.close
     (tie.spec
     (λ c. search rules)  -- mul-last

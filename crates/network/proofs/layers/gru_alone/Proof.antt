@@ -7,8 +7,8 @@ gru-requires : tie.Need-gru-requires
 gru-requires c κs = let start = c.before.before.before.before.before.before.before.before.before in
     (start.requires.2, (start.requires.0, search rules))
 
-pub gru-alone-spec : {M : Type 1} → statement M
-gru-alone-spec =
+pub gru_alone_spec : {M : Type 1} → statement M
+gru_alone_spec =
     tie.close
     (tie.spec
     (λ c. search rules)  -- sub-gru

@@ -2,19 +2,19 @@
 use Rattle.rules.proofs.Common.{◌-◌, ◌≤◌, ◌≡◌, length}
 use Rattle.rules.specs.Loop.{loop}
 use Rattle.rules.proofs.Loops.{turns}
-use Rattle.network.specs.Private.{mixStep}
+use Rattle.network.specs.Private.{mix_step}
 use Rattle.network.proofs.layers.mix.Statement.{statement}
 use Rattle.network.proofs.layers.mix.Tie as tie
 
 abbrev invariant-loop : tie.invariant-loop
 invariant-loop state₀ z new j₀ j-end state j =
-    (j ≤ j-end) × (j-end ≡ length state₀) × (length state ≡ length state₀) × (state ≡ loop j (mixStep z new) state₀)
+    (j ≤ j-end) × (j-end ≡ length state₀) × (length state ≡ length state₀) × (state ≡ loop j (mix_step z new) state₀)
 
 abbrev decreases-loop : tie.decreases-loop
 decreases-loop state₀ z new j₀ j-end state j = j-end - j
 
-pub mix-spec : {M : Type 1} → statement M
-mix-spec =
+pub mix_spec : {M : Type 1} → statement M
+mix_spec =
     tie.close
     (tie.spec
     invariant-loop

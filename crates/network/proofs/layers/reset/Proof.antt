@@ -1,6 +1,6 @@
 -- `network::layers::reset` meets its contract. Assumes nothing.
 use borrow.Author.Rules.{rules}
-use Rattle.network.proofs.Listed.{reset-joined}
+use Rattle.network.proofs.Listed.{reset_joined}
 use Rattle.network.proofs.layers.reset.Statement.{statement}
 use Rattle.network.proofs.layers.reset.Tie as tie
 
@@ -9,11 +9,11 @@ returns c =
     let multiplied = c.before.before in
     let opened = multiplied.before.before.before.before in
     let start = opened.before.before.before.before in
-    reset-joined start.args.state.now start.args.r.now opened.update.ensures opened.update.auto.0
+    reset_joined start.args.state.now start.args.r.now opened.update.ensures opened.update.auto.0
     multiplied.times.ensures
 
-pub reset-spec : {M : Type 1} → statement M
-reset-spec =
+pub reset_spec : {M : Type 1} → statement M
+reset_spec =
     tie.close
     (tie.spec
     (λ c κs. search rules)  -- update-requires

@@ -2,19 +2,19 @@
 use Rattle.rules.proofs.Common.{◌-◌, ◌≤◌, ◌≡◌, length, nan}
 use Rattle.rules.specs.F32.{◌⊗◌}
 use Rattle.rules.proofs.Lists.{Mapping, maps}
-use Rattle.network.specs.Layers.{weightsScale}
+use Rattle.network.specs.Layers.{weights_scale}
 use Rattle.network.proofs.layers.scale.Statement.{statement}
 use Rattle.network.proofs.layers.scale.Tie as tie
 
 abbrev invariant-loop : tie.invariant-loop
 invariant-loop xs₀ j₀ j-end xs j =
-    (j ≤ j-end) × (j-end ≡ length xs₀) × Mapping (λ x. weightsScale ⊗ x) nan xs₀ j xs
+    (j ≤ j-end) × (j-end ≡ length xs₀) × Mapping (λ x. weights_scale ⊗ x) nan xs₀ j xs
 
 abbrev decreases-loop : tie.decreases-loop
 decreases-loop xs₀ j₀ j-end xs j = j-end - j
 
-pub scale-spec : {M : Type 1} → statement M
-scale-spec =
+pub scale_spec : {M : Type 1} → statement M
+scale_spec =
     tie.close
     (tie.spec
     invariant-loop

@@ -2,19 +2,19 @@
 use Rattle.rules.proofs.Common.{◌-◌, ◌≤◌, ◌≡◌, length}
 use Rattle.rules.specs.Loop.{loop}
 use Rattle.rules.proofs.Loops.{turns}
-use Rattle.network.specs.Private.{timesStep}
+use Rattle.network.specs.Private.{times_step}
 use Rattle.network.proofs.layers.times.Statement.{statement}
 use Rattle.network.proofs.layers.times.Tie as tie
 
 abbrev invariant-loop : tie.invariant-loop
 invariant-loop gates₀ state j₀ j-end gates j =
-    (j ≤ j-end) × (j-end ≡ length gates₀) × (length gates ≡ length gates₀) × (gates ≡ loop j (timesStep state) gates₀)
+    (j ≤ j-end) × (j-end ≡ length gates₀) × (length gates ≡ length gates₀) × (gates ≡ loop j (times_step state) gates₀)
 
 abbrev decreases-loop : tie.decreases-loop
 decreases-loop gates₀ state j₀ j-end gates j = j-end - j
 
-pub times-spec : {M : Type 1} → statement M
-times-spec =
+pub times_spec : {M : Type 1} → statement M
+times_spec =
     tie.close
     (tie.spec
     invariant-loop

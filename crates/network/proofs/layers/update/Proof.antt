@@ -12,8 +12,8 @@ returns c =
     updated start.args.table.now start.args.gates.now start.requires scaled.scale.ensures
     opened.sigmoids.ensures
 
-pub update-spec : {M : Type 1} → statement M
-update-spec =
+pub update_spec : {M : Type 1} → statement M
+update_spec =
     tie.close
     (tie.spec
     (λ c κs. search rules)  -- scale-requires

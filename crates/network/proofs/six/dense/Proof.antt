@@ -1,7 +1,7 @@
 -- `network::six::dense` meets its contract: the layer over the parts that its arrays are. Assumes nothing.
 use borrow.Author.Rules.{rules}
 use native.Mathlib.Omega.{arith}
-use Rattle.network.proofs.Parts.{found, ends-within, dense-arrays, dense-at}
+use Rattle.network.proofs.Parts.{found, ends_within, dense_arrays, dense_at_lem}
 use Rattle.network.proofs.six.dense.Statement.{statement}
 use Rattle.network.proofs.six.dense.Tie as tie
 
@@ -11,7 +11,7 @@ add-w-end c =
     let one = two.before in
     let start = one.before.before.before.before in
     let within = start.requires.1.within in
-    omega (arith, start.well-formed, ends-within within (found 0 within one.IsPlace-in.ensures))
+    omega (arith, start.well-formed, ends_within within (found 0 within one.IsPlace-in.ensures))
 
 add-b-end : tie.Need-overflow-add-b-end
 add-b-end c =
@@ -19,7 +19,7 @@ add-b-end c =
     let one = two.before in
     let start = one.before.before.before.before in
     let within = start.requires.1.within in
-    omega (arith, start.well-formed, ends-within within (found 2 within two.place-in2.ensures))
+    omega (arith, start.well-formed, ends_within within (found 2 within two.place-in2.ensures))
 
 part-dense-end : tie.Need-slice-bounds-dense-end
 part-dense-end c =
@@ -27,7 +27,7 @@ part-dense-end c =
     let one = two.before in
     let start = one.before.before.before.before in
     let within = start.requires.1.within in
-    ends-within within (found 0 within one.IsPlace-in.ensures)
+    ends_within within (found 0 within one.IsPlace-in.ensures)
 
 part-dense-end-2 : tie.Need-slice-bounds-dense-end-2
 part-dense-end-2 c =
@@ -35,7 +35,7 @@ part-dense-end-2 c =
     let one = two.before in
     let start = one.before.before.before.before in
     let within = start.requires.1.within in
-    ends-within within (found 2 within two.place-in2.ensures)
+    ends_within within (found 2 within two.place-in2.ensures)
 
 dense-requires : tie.Need-dense-requires
 dense-requires c κs =
@@ -44,7 +44,7 @@ dense-requires c κs =
     let start = one.before.before.before.before in
     let within = start.requires.1.within in (
       start.requires.0,
-      dense-arrays start.args.bytes.now start.args.h (found 0 within one.IsPlace-in.ensures)
+      dense_arrays start.args.bytes.now start.args.h (found 0 within one.IsPlace-in.ensures)
           (found 2 within two.place-in2.ensures) start.requires.1,
     )
 
@@ -55,11 +55,11 @@ returns c =
     let one = two.before in
     let start = one.before.before.before.before in
     let within = start.requires.1.within in
-    dense-at start.args.bytes.now start.args.h (found 0 within one.IsPlace-in.ensures)
+    dense_at_lem start.args.bytes.now start.args.h (found 0 within one.IsPlace-in.ensures)
     (found 2 within two.place-in2.ensures) _ call.dense.ensures
 
-pub dense-spec : {M : Type 1} → statement M
-dense-spec =
+pub dense_spec : {M : Type 1} → statement M
+dense_spec =
     tie.close
     (tie.spec
     (λ c κs. search rules)  -- place-in-requires

@@ -15,8 +15,8 @@ frame-in-requires c κs =
     let p = c.before.before.before.before.before.before.before.before.before.requires in
     (p.0, simp length-take (omega (arith, (few _ _ p.0).0)), p.1, p.2, p.3, p.4)
 
-pub frame-spec : {M : Type 1} → statement M
-frame-spec =
+pub frame_spec : {M : Type 1} → statement M
+frame_spec =
     tie.close
     (tie.spec
     (λ c. search rules)  -- sub-frame-in

@@ -2,7 +2,7 @@
 use borrow.Author.Rules.{rules}
 use native.Mathlib.Omega.{arith}
 use mathlib.Core.Path.{refl}
-use Rattle.network.proofs.Parts.{cut-length, found, ends-within, gru-arrays, gru-at}
+use Rattle.network.proofs.Parts.{cut_length, found, ends_within, gru_arrays, gru_at_lem}
 use Rattle.network.proofs.six.gru.Statement.{statement}
 use Rattle.network.proofs.six.gru.Tie as tie
 
@@ -13,7 +13,7 @@ add-w-end c =
     let one = two.before in
     let start = one.before.before.before.before in
     let fit = start.requires.2 in
-    omega (arith, start.well-formed, ends-within fit.within (found 0 fit.within one.IsPlace-in.ensures))
+    omega (arith, start.well-formed, ends_within fit.within (found 0 fit.within one.IsPlace-in.ensures))
 
 add-r-end : tie.Need-overflow-add-r-end
 add-r-end c =
@@ -22,7 +22,7 @@ add-r-end c =
     let one = two.before in
     let start = one.before.before.before.before in
     let fit = start.requires.2 in
-    omega (arith, start.well-formed, ends-within fit.within (found 1 fit.within two.place-in2.ensures))
+    omega (arith, start.well-formed, ends_within fit.within (found 1 fit.within two.place-in2.ensures))
 
 add-b-end : tie.Need-overflow-add-b-end
 add-b-end c =
@@ -31,7 +31,7 @@ add-b-end c =
     let one = two.before in
     let start = one.before.before.before.before in
     let fit = start.requires.2 in
-    omega (arith, start.well-formed, ends-within fit.within (found 2 fit.within three.place-in3.ensures))
+    omega (arith, start.well-formed, ends_within fit.within (found 2 fit.within three.place-in3.ensures))
 
 part-gru-alone-end-2 : tie.Need-slice-bounds-gru-alone-end-2
 part-gru-alone-end-2 c =
@@ -40,7 +40,7 @@ part-gru-alone-end-2 c =
     let one = two.before in
     let start = one.before.before.before.before in
     let fit = start.requires.2 in
-    ends-within fit.within (found 0 fit.within one.IsPlace-in.ensures)
+    ends_within fit.within (found 0 fit.within one.IsPlace-in.ensures)
 
 part-gru-alone-end-3 : tie.Need-slice-bounds-gru-alone-end-3
 part-gru-alone-end-3 c =
@@ -49,7 +49,7 @@ part-gru-alone-end-3 c =
     let one = two.before in
     let start = one.before.before.before.before in
     let fit = start.requires.2 in
-    ends-within fit.within (found 1 fit.within two.place-in2.ensures)
+    ends_within fit.within (found 1 fit.within two.place-in2.ensures)
 
 part-gru-alone-end-4 : tie.Need-slice-bounds-gru-alone-end-4
 part-gru-alone-end-4 c =
@@ -58,7 +58,7 @@ part-gru-alone-end-4 c =
     let one = two.before in
     let start = one.before.before.before.before in
     let fit = start.requires.2 in
-    ends-within fit.within (found 2 fit.within three.place-in3.ensures)
+    ends_within fit.within (found 2 fit.within three.place-in3.ensures)
 
 gru-alone-requires : tie.Need-gru-alone-requires
 gru-alone-requires c κs =
@@ -67,11 +67,11 @@ gru-alone-requires c κs =
     let one = two.before in
     let start = one.before.before.before.before in
     let fit = start.requires.2 in
-    let long = cut-length start.args.states.now start.args.at _ start.args.h.neurons refl
+    let long = cut_length start.args.states.now start.args.at _ start.args.h.neurons refl
     start.requires.1 in (
       start.requires.0,
       omega (arith, long, fit.within.neurons),
-      gru-arrays start.args.bytes.now start.args.h (found 0 fit.within one.IsPlace-in.ensures)
+      gru_arrays start.args.bytes.now start.args.h (found 0 fit.within one.IsPlace-in.ensures)
           (found 1 fit.within two.place-in2.ensures) (found 2 fit.within three.place-in3.ensures)
           (record { within = fit.within; neurons = long; inputs = fit.inputs }),
     )
@@ -84,13 +84,13 @@ returns c =
     let one = two.before in
     let start = one.before.before.before.before in
     let fit = start.requires.2 in
-    gru-at start.args.bytes.now start.args.h (found 0 fit.within one.IsPlace-in.ensures)
+    gru_at_lem start.args.bytes.now start.args.h (found 0 fit.within one.IsPlace-in.ensures)
     (found 1 fit.within two.place-in2.ensures)
     (found 2 fit.within three.place-in3.ensures) _ start.args.states.now start.args.at
     call.gru-alone.ensures
 
-pub gru-spec : {M : Type 1} → statement M
-gru-spec =
+pub gru_spec : {M : Type 1} → statement M
+gru_spec =
     tie.close
     (tie.spec
     (λ c κs. search rules)  -- place-in-requires

@@ -14,8 +14,8 @@ returns c =
     middle.put2.new.0 last.put3.new.0
     front.put.ensures middle.put2.ensures last.put3.ensures
 
-pub join-spec : {M : Type 1} → statement M
-join-spec =
+pub join_spec : {M : Type 1} → statement M
+join_spec =
     tie.close
     (tie.spec
     (λ c. search rules)  -- add-b

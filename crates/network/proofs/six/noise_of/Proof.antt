@@ -4,10 +4,10 @@ use Rattle.rules.proofs.Common.{◌-◌, List, refl, ap, ◌∙◌, Float}
 use native.Mathlib.Omega.{arith}
 use Rattle.rules.specs.F32.{part}
 use Rattle.rules.specs.Place.{get, put}
-use Rattle.network.specs.Compute.{gruAt}
-use Rattle.network.specs.Private.{stateAt}
-use Rattle.network.proofs.Parts.{cut-length, cut}
-use Rattle.network.proofs.Pieces.{as-inputs}
+use Rattle.network.specs.Compute.{gru_at}
+use Rattle.network.specs.Private.{state_at}
+use Rattle.network.proofs.Parts.{cut_length, cut}
+use Rattle.network.proofs.Pieces.{as_inputs}
 use Rattle.network.proofs.six.noise_of.Statement.{statement}
 use Rattle.network.proofs.six.noise_of.Tie as tie
 
@@ -21,15 +21,15 @@ returns c =
     let h = a.m.noise_gru in
     let n = a.m.vad_gru.neurons in
     let fit = start.requires.2 in
-    let long = cut-length s 0 n n (omega arith) (omega (arith, start.requires.1, fit.within.inputs, fit.inputs)) in
+    let long = cut_length s 0 n n (omega arith) (omega (arith, start.requires.1, fit.within.inputs, fit.inputs)) in
     g.gru.ensures
-    ∙ ap (λ (i : List Float). put (stateAt 128 h) s (gruAt a.bytes.now h i (get (stateAt 128 h) s)))
-    (as-inputs a.hidden.now (part 0 n s) a.features.now j.join.new.0 (h.inputs - 0) refl
-    (cut s 0 n (stateAt 0 a.m.vad_gru) refl (omega arith))
+    ∙ ap (λ (i : List Float). put (state_at 128 h) s (gru_at a.bytes.now h i (get (state_at 128 h) s)))
+    (as_inputs a.hidden.now (part 0 n s) a.features.now j.join.new.0 (h.inputs - 0) refl
+    (cut s 0 n (state_at 0 a.m.vad_gru) refl (omega arith))
     (omega (arith, long, fit.inputs)) j.join.ensures)
 
-pub noise-of-spec : {M : Type 1} → statement M
-noise-of-spec =
+pub noise_of_spec : {M : Type 1} → statement M
+noise_of_spec =
     tie.close
     (tie.spec
     (λ c. search rules)  -- slice-aggregate-join

@@ -3,7 +3,7 @@ use Rattle.rules.proofs.Common.{◌-◌, ◌≤◌, ◌≡◌, refl, length, len
 use native.Mathlib.Omega.{arith}
 use lib.Seq.{paste, paste-zero}
 use Rattle.rules.proofs.Loops.{turns}
-use Rattle.network.proofs.Pieces.{put-more, put_ended}
+use Rattle.network.proofs.Pieces.{put_more, put_ended}
 use Rattle.network.proofs.six.put.Statement.{statement}
 use Rattle.network.proofs.six.put.Tie as tie
 
@@ -21,7 +21,7 @@ loop-again c =
       omega arith,
       refl,
       simp length-set l.invariant.2,
-      put-more nan _ start.args.at start.args.src.now l.i start.requires c.before.loop-test.true
+      put_more nan _ start.args.at start.args.src.now l.i start.requires c.before.loop-test.true
           l.invariant.3,
     )
 

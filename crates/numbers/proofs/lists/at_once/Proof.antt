@@ -1,26 +1,26 @@
--- `numbers::lists::at_once` meets its contract: what is followed from the entry at a number's place is its `tansigIn`.
+-- `numbers::lists::at_once` meets its contract: what is followed from the entry at a number's place is its `tansig_in`.
 -- Assumes nothing.
 use Rattle.rules.proofs.Common.{ℕ, List, map, ◌≡◌, ap, ◌∙◌, length, Float, nan}
 use Rattle.std.proofs.Common.{rules}
 use Rattle.rules.specs.F32.{at}
 use Rattle.rules.specs.Tab.{tab}
-use Rattle.rules.proofs.Lists.{tab-map, getD-tab, tab-same}
-use Rattle.numbers.specs.Activations.{tansigIn}
-use Rattle.numbers.specs.Private.{entryIn, followed}
+use Rattle.rules.proofs.Lists.{tab_map, get_d_tab, tab_same}
+use Rattle.numbers.specs.Activations.{tansig_in}
+use Rattle.numbers.specs.Private.{entry_in, followed}
 use Rattle.numbers.proofs.Floors.{ends}
 use Rattle.numbers.proofs.lists.at_once.Statement.{statement}
 use Rattle.numbers.proofs.lists.at_once.Tie as tie
 
-joined : (table xs : List Float) {ys left : List Float} → ys ≡ tab (length xs) (λ j. entryIn table (at xs j))
+joined : (table xs : List Float) {ys left : List Float} → ys ≡ tab (length xs) (λ j. entry_in table (at xs j))
     → left ≡ tab (length xs) (λ j. followed (at xs j) (at ys j))
-    → left ≡ map (tansigIn table) xs
+    → left ≡ map (tansig_in table) xs
 joined table xs {ys} looked e =
-    let entry : ℕ → Float = λ j. entryIn table (at xs j) in
+    let entry : ℕ → Float = λ j. entry_in table (at xs j) in
     e
-    ∙ tab-same (length xs) (λ j. followed (at xs j) (at ys j)) (λ j. tansigIn table (at xs j))
+    ∙ tab_same (length xs) (λ j. followed (at xs j) (at ys j)) (λ j. tansig_in table (at xs j))
     (λ j inside. ap (followed (at xs j))
-    (ap (λ (l : List Float). at l j) looked ∙ getD-tab (length xs) entry j nan inside) ∙ ends table (at xs j))
-    ∙ tab-map (tansigIn table) nan xs
+    (ap (λ (l : List Float). at l j) looked ∙ get_d_tab (length xs) entry j nan inside) ∙ ends table (at xs j))
+    ∙ tab_map (tansig_in table) nan xs
 
 returns : tie.Need-returns
 returns c =
@@ -29,8 +29,8 @@ returns c =
     let start = looked.before.before.before.before.before.before.before.before.before.before in
     joined start.args.table.now start.args.xs.now looked.entries.ensures curved.curves.ensures
 
-pub at-once-spec : {M : Type 1} → statement M
-at-once-spec =
+pub at_once_spec : {M : Type 1} → statement M
+at_once_spec =
     tie.close
     (tie.spec
     (λ c κs. search rules)  -- places-requires

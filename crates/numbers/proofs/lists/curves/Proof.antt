@@ -2,7 +2,7 @@
 use Rattle.rules.proofs.Common.{◌-◌, ◌≤◌, ◌≡◌, refl, ap, ◌∙◌, length, Float, nan}
 use Rattle.std.proofs.Common.{arith}
 use Rattle.rules.specs.F32.{at}
-use Rattle.rules.proofs.Lists.{Filling, filling-more, filling-ahead, fills}
+use Rattle.rules.proofs.Lists.{Filling, filling_more, filling_ahead, fills}
 use Rattle.numbers.specs.Private.{followed}
 use Rattle.numbers.proofs.lists.curves.Statement.{statement}
 use Rattle.numbers.proofs.lists.curves.Tie as tie
@@ -18,15 +18,15 @@ loop-again : tie.Need-loop-preserved invariant-loop decreases-loop
 loop-again c =
     let l = c.before.before.before.before.loop in
     let spare = c.before.before.before.before.before.before.before.args.spare.now in
-    let same = filling-ahead _ _ _ l.j nan l.invariant.2 (omega arith) in (
+    let same = filling_ahead _ _ _ l.j nan l.invariant.2 (omega arith) in (
       omega arith,
       refl,
-      filling-more _ _ _ l.invariant.2 (omega arith)
+      filling_more _ _ _ l.invariant.2 (omega arith)
           (c.follow.ensures ∙ ap (λ (x : Float). followed x (at spare l.j)) same),
     )
 
-pub curves-spec : {M : Type 1} → statement M
-curves-spec =
+pub curves_spec : {M : Type 1} → statement M
+curves_spec =
     tie.close
     (tie.spec
     invariant-loop

@@ -12,8 +12,8 @@ invariant-loop xs₀ j₀ j-end xs j =
 abbrev decreases-loop : tie.decreases-loop
 decreases-loop xs₀ j₀ j-end xs j = j-end - j
 
-pub halve-spec : {M : Type 1} → statement M
-halve-spec =
+pub halve_spec : {M : Type 1} → statement M
+halve_spec =
     tie.close
     (tie.spec
     invariant-loop

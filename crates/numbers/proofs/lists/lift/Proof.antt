@@ -12,8 +12,8 @@ invariant-loop xs₀ j₀ j-end xs j =
 abbrev decreases-loop : tie.decreases-loop
 decreases-loop xs₀ j₀ j-end xs j = j-end - j
 
-pub lift-spec : {M : Type 1} → statement M
-lift-spec =
+pub lift_spec : {M : Type 1} → statement M
+lift_spec =
     tie.close
     (tie.spec
     invariant-loop

@@ -1,19 +1,19 @@
 -- `numbers::lists::one_by_one` meets its contract. Assumes nothing.
 use Rattle.rules.proofs.Common.{◌-◌, ◌≤◌, ◌≡◌, length, nan}
 use Rattle.rules.proofs.Lists.{Mapping, maps}
-use Rattle.numbers.specs.Activations.{tansigIn}
+use Rattle.numbers.specs.Activations.{tansig_in}
 use Rattle.numbers.proofs.lists.one_by_one.Statement.{statement}
 use Rattle.numbers.proofs.lists.one_by_one.Tie as tie
 
 abbrev invariant-loop : tie.invariant-loop
 invariant-loop xs₀ table j₀ j-end xs j =
-    (j ≤ j-end) × (j-end ≡ length xs₀) × Mapping (tansigIn table) nan xs₀ j xs
+    (j ≤ j-end) × (j-end ≡ length xs₀) × Mapping (tansig_in table) nan xs₀ j xs
 
 abbrev decreases-loop : tie.decreases-loop
 decreases-loop xs₀ table j₀ j-end xs j = j-end - j
 
-pub one-by-one-spec : {M : Type 1} → statement M
-one-by-one-spec =
+pub one_by_one_spec : {M : Type 1} → statement M
+one_by_one_spec =
     tie.close
     (tie.spec
     invariant-loop

@@ -3,7 +3,7 @@ use Rattle.rules.proofs.Common.{◌-◌, ◌≤◌, ◌≡◌, length}
 use Rattle.rules.specs.F32.{at}
 use Rattle.rules.proofs.Lists.{Filling, fills}
 use Rattle.numbers.specs.Private.{place_in}
-use Rattle.numbers.proofs.Floors.{inside-within}
+use Rattle.numbers.proofs.Floors.{inside_within}
 use Rattle.numbers.proofs.lists.places.Statement.{statement}
 use Rattle.numbers.proofs.lists.places.Tie as tie
 
@@ -14,8 +14,8 @@ invariant-loop spare₀ xs j₀ j-end spare j =
 abbrev decreases-loop : tie.decreases-loop
 decreases-loop spare₀ xs j₀ j-end spare j = j-end - j
 
-pub places-spec : {M : Type 1} → statement M
-places-spec =
+pub places_spec : {M : Type 1} → statement M
+places_spec =
     tie.close
     (tie.spec
     invariant-loop
@@ -24,7 +24,7 @@ places-spec =
     (λ c. search fills)  -- mul-inside
     (λ c. search fills)  -- shared-slice-read-inside
     (λ c κs. search fills)  -- inside-requires
-    (λ c κs. rw c.inside.ensures (inside-within _))  -- place-of-requires
+    (λ c κs. rw c.inside.ensures (inside_within _))  -- place-of-requires
     (λ c. search fills)  -- mul-spare
     (λ c. search fills)  -- slice-write-spare
     (λ c. search fills)  -- add-j

@@ -12,8 +12,8 @@ invariant-loop xs₀ j₀ j-end xs j =
 abbrev decreases-loop : tie.decreases-loop
 decreases-loop xs₀ j₀ j-end xs j = j-end - j
 
-pub relus-spec : {M : Type 1} → statement M
-relus-spec =
+pub relus_spec : {M : Type 1} → statement M
+relus_spec =
     tie.close
     (tie.spec
     invariant-loop

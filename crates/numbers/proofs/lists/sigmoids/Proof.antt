@@ -3,19 +3,19 @@ use Rattle.rules.proofs.Common.{List, map, ◌≡◌, ap, ◌∙◌, Float}
 use mathlib.Core.List.{map-map}
 use Rattle.std.proofs.Common.{rules}
 use Rattle.rules.specs.F32.{f32, ◌⊕◌, ◌⊗◌}
-use Rattle.numbers.specs.Activations.{tansigIn, sigmoidIn}
+use Rattle.numbers.specs.Activations.{tansig_in, sigmoid_in}
 use Rattle.numbers.proofs.lists.sigmoids.Statement.{statement}
 use Rattle.numbers.proofs.lists.sigmoids.Tie as tie
 
 joined : (table xs : List Float) {a b r : List Float} → a ≡ map (λ x. f32 0x3F000000 ⊗ x) xs
-    → b ≡ map (tansigIn table) a → r ≡ map (λ x. f32 0x3F000000 ⊕ f32 0x3F000000 ⊗ x) b
-    → r ≡ map (sigmoidIn table) xs
-unfolding sigmoidIn
+    → b ≡ map (tansig_in table) a → r ≡ map (λ x. f32 0x3F000000 ⊕ f32 0x3F000000 ⊗ x) b
+    → r ≡ map (sigmoid_in table) xs
+unfolding sigmoid_in
 joined table xs {a} {b} halved curved lifted =
     let half : Float → Float = λ x. f32 0x3F000000 ⊗ x in
     let lift : Float → Float = λ x. f32 0x3F000000 ⊕ f32 0x3F000000 ⊗ x in
-    lifted ∙ ap (map lift) (curved ∙ ap (map (tansigIn table)) halved ∙ map-map (tansigIn table) half xs)
-    ∙ map-map lift (λ x. tansigIn table (half x)) xs
+    lifted ∙ ap (map lift) (curved ∙ ap (map (tansig_in table)) halved ∙ map-map (tansig_in table) half xs)
+    ∙ map-map lift (λ x. tansig_in table (half x)) xs
 
 returns : tie.Need-returns
 returns c =
@@ -26,8 +26,8 @@ returns c =
     joined start.args.table.now start.args.xs.now halved.halve.ensures curved.tansigs.ensures
     lifted.lift.ensures
 
-pub sigmoids-spec : {M : Type 1} → statement M
-sigmoids-spec =
+pub sigmoids_spec : {M : Type 1} → statement M
+sigmoids_spec =
     tie.close
     (tie.spec
     (λ c κs. search rules)  -- halve-requires

@@ -2,12 +2,12 @@
 use Rattle.std.proofs.Common.{le_antisymm}
 use Rattle.rules.specs.F32.{at}
 use Rattle.rules.proofs.Tests.{keyed, past}
-use Rattle.numbers.specs.Tansig.{tansig, tansigBits}
+use Rattle.numbers.specs.Tansig.{tansig, tansig_bits}
 use Rattle.numbers.proofs.table.entry.Statement.{statement}
 use Rattle.numbers.proofs.table.entry.Tie as tie
 
 pub entry_spec : {M : Type 1} → statement M
-unfolding tansig tansigBits
+unfolding tansig tansig_bits
 entry_spec =
     tie.close
     (tie.spec

@@ -4,7 +4,7 @@ use Rattle.rules.proofs.Common.{ℕ, ◌+◌, ◌-◌, ◌*◌, ◌/◌, ◌%◌
 use Rattle.rules.proofs.Common.{Float}
 use Rattle.std.proofs.Common.{arith}
 use Rattle.rules.specs.F32.{at}
-use Rattle.rules.proofs.Lists.{Filling, fills, filling-more, filling-ended}
+use Rattle.rules.proofs.Lists.{Filling, fills, filling_more, filling_ended}
 use Rattle.pcm.specs.Pcm.{nearest16, byte_of, packed}
 use Rattle.pcm.proofs.bytes.pack_core.Statement.{statement}
 use Rattle.pcm.proofs.bytes.pack_core.Tie as tie
@@ -14,22 +14,22 @@ abbrev byte : List Float → ℕ → ℕ
 byte samples k = byte_of (nearest16 (at samples (k / 2))) (k % 2)
 
 -- byte j of sample i
-of-sample : (samples : List Float) (i j k : ℕ) → k / 2 ≡ i → k % 2 ≡ j → {n : ℕ} → n ≡ nearest16 (at samples i)
+of_sample : (samples : List Float) (i j k : ℕ) → k / 2 ≡ i → k % 2 ≡ j → {n : ℕ} → n ≡ nearest16 (at samples i)
     → byte_of n j ≡ byte samples k
-of-sample samples i j k half rest e = rw (half, rest, e)
+of_sample samples i j k half rest e = rw (half, rest, e)
 
 -- one sample more
-sample-more : (samples : List Float) (out₀ : List ℕ) (i : ℕ) {out : List ℕ} {n b c : ℕ}
+sample_more : (samples : List Float) (out₀ : List ℕ) (i : ℕ) {out : List ℕ} {n b c : ℕ}
     → Filling (byte samples) out₀ (2 * i) out
     → n ≡ nearest16 (at samples i) → b ≡ byte_of n 0 → c ≡ byte_of n 1 → length out₀ ≡ 2 * length samples
     → i < length samples
     → Filling (byte samples) out₀ (2 * (i + 1)) (set (set out (2 * i) b) (2 * i + 1) c)
-sample-more samples out₀ i {out} {n} {b} {c} f e low high l h =
+sample_more samples out₀ i {out} {n} {b} {c} f e low high l h =
     subst (λ (k : ℕ). Filling (byte samples) out₀ k (set (set out (2 * i) b) (2 * i + 1) c)) (omega arith)
-    (filling-more (byte samples) out₀ (2 * i + 1)
-    (filling-more (byte samples) out₀ (2 * i) f (omega arith)
-    (low ∙ of-sample samples i 0 (2 * i) (omega arith) (omega arith) e))
-    (omega arith) (high ∙ of-sample samples i 1 (2 * i + 1) (omega arith) (omega arith) e))
+    (filling_more (byte samples) out₀ (2 * i + 1)
+    (filling_more (byte samples) out₀ (2 * i) f (omega arith)
+    (low ∙ of_sample samples i 0 (2 * i) (omega arith) (omega arith) e))
+    (omega arith) (high ∙ of_sample samples i 1 (2 * i + 1) (omega arith) (omega arith) e))
 
 abbrev invariant-loop : tie.invariant-loop
 invariant-loop out₀ samples i₀ i-end out i =
@@ -41,10 +41,10 @@ decreases-loop out₀ samples i₀ i-end out i = i-end - i
 
 returns : tie.Need-returns invariant-loop decreases-loop
 unfolding packed
-returns c = let l = c.before.loop in filling-ended _ _ _ _ (omega arith) (omega arith) l.invariant.2 l.invariant.3
+returns c = let l = c.before.loop in filling_ended _ _ _ _ (omega arith) (omega arith) l.invariant.2 l.invariant.3
 
-pub pack-core-spec : {M : Type 1} → statement M
-pack-core-spec =
+pub pack_core_spec : {M : Type 1} → statement M
+pack_core_spec =
     tie.close
     (tie.spec
     invariant-loop
@@ -71,7 +71,7 @@ pack-core-spec =
       omega arith,
       l.invariant.1,
       l.invariant.2,
-      sample-more samples _ _ l.invariant.3 n.nearest.ensures.0 c.before.byte-of.ensures c.byte-of2.ensures
+      sample_more samples _ _ l.invariant.3 n.nearest.ensures.0 c.before.byte_of.ensures c.byte-of2.ensures
           l.invariant.2 (omega arith),
     ))  -- loop-again
     (λ c. search fills)  -- same-length

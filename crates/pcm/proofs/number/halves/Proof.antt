@@ -9,8 +9,8 @@ returns : tie.Need-returns
 unfolding halves
 returns c = cc
 
-pub halves-spec : {M : Type 1} → statement M
-halves-spec =
+pub halves_spec : {M : Type 1} → statement M
+halves_spec =
     tie.close
     (tie.spec
     (λ c. search rules)  -- add-two

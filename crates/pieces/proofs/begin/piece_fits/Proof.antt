@@ -1,13 +1,13 @@
 -- `pieces::begin::piece_fits` meets its contract. Assumes nothing.
 use borrow.Author.Rules.{rules}
 use Rattle.rules.proofs.Tests.{tests}
-use Rattle.pieces.specs.Pieces.{pieceFits}
+use Rattle.pieces.specs.Pieces.{piece_fits}
 use Rattle.pieces.proofs.begin.piece_fits.Statement.{statement}
 use Rattle.pieces.proofs.begin.piece_fits.Tie as tie
 
-pub piece-fits-spec : {M : Type 1} → statement M
-unfolding pieceFits
-piece-fits-spec = tie.close
+pub piece_fits_spec : {M : Type 1} → statement M
+unfolding piece_fits
+piece_fits_spec = tie.close
     (tie.spec
     (λ c. search tests)  -- returns
     (λ c. search tests)  -- returns-2

@@ -2,8 +2,8 @@
 use Rattle.rules.proofs.Common.{◌+◌, ◌-◌, length-take, length-drop}
 use native.Mathlib.Omega.{arith}
 use borrow.Author.Rules.{rules}
-use Rattle.pieces.proofs.Goods.{good-take, good-drop}
-use Rattle.pieces.proofs.Serve.{rest-waits, rest-begins}
+use Rattle.pieces.proofs.Goods.{good_take, good_drop}
+use Rattle.pieces.proofs.Serve.{rest_waits, rest_begins}
 use Rattle.pieces.proofs.finish.go_on.Statement.{statement}
 use Rattle.pieces.proofs.finish.go_on.Tie as tie
 
@@ -11,7 +11,7 @@ returns : tie.Need-returns
 returns c =
     let t = c.before.before.before.before in
     let a = t.before.before.before.before.args in
-    rest-waits a.share.now a.way a.samples.now a.from a.sums.now t.if1.true
+    rest_waits a.share.now a.way a.samples.now a.from a.sums.now t.if1.true
     c.before.before.keep.ensures
 
 enter-requires : tie.Need-enter-requires
@@ -20,7 +20,7 @@ enter-requires c κs =
     let a = s.args in (
       s.requires.0,
       simp (length-take, length-drop) (omega arith),
-      good-take (a.from + 480 - a.from) _ (good-drop a.from a.samples.now s.requires.2),
+      good_take (a.from + 480 - a.from) _ (good_drop a.from a.samples.now s.requires.2),
       s.requires.3,
     )
 
@@ -29,10 +29,10 @@ returns-2 c =
     let n = c.before.before.before.before.enter.ensures in
     let t = c.before.before.before.before.before.before.before.before in
     let a = t.before.before.before.before.args in
-    rest-begins a.share.now a.way a.samples.now a.from a.sums.now t.if1.false n.0 n.1
+    rest_begins a.share.now a.way a.samples.now a.from a.sums.now t.if1.false n.0 n.1
 
-pub go-on-spec : {M : Type 1} → statement M
-go-on-spec =
+pub go_on_spec : {M : Type 1} → statement M
+go_on_spec =
     tie.close
     (tie.spec
     (λ c. search rules)  -- sub-if1

@@ -3,18 +3,18 @@
 use Rattle.rules.proofs.Common.{true, ◌≡◌, length}
 use native.Mathlib.Omega.{arith}
 use borrow.Author.Rules.{rules}
-use Rattle.rules.proofs.Tests.{answered-no, answered-yes}
+use Rattle.rules.proofs.Tests.{answered_no, answered_yes}
 use Rattle.frame.specs.Share.{SHARE}
 use Rattle.frame.specs.Reply.{passed}
-use Rattle.pieces.proofs.Accepted.{Resume, resume-accepted, within-samples, frame-fits}
-use Rattle.pieces.proofs.Serve.{finished-length, resume-refused, resume-goes}
+use Rattle.pieces.proofs.Accepted.{Resume, resume_accepted, within_samples, frame_fits}
+use Rattle.pieces.proofs.Serve.{finished_length, resume_refused, resume_goes}
 use Rattle.pieces.proofs.finish.resume.Statement.{statement}
 use Rattle.pieces.proofs.finish.resume.Tie as tie
 
 -- ---- past the tests
 
 through : (c : tie.Else1) → passed c.before.before.resume-reply.result ≡ true
-through c = answered-yes c.before.passed.ensures c.if1.false
+through c = answered_yes c.before.passed.ensures c.if1.false
 
 got : (c : tie.Else1)
     → let a = c.before.before.before.before.before.before.before.before.before.before.args in
@@ -22,15 +22,15 @@ got : (c : tie.Else1)
     (length a.out.now) (length a.sums.now)
 got c =
     let a = c.before.before.before.before.before.before.before.before.before.before.args in
-    resume-accepted a.share.now a.hearing a.piece a.progress a.samples.now a.logs.now
+    resume_accepted a.share.now a.hearing a.piece a.progress a.samples.now a.logs.now
     a.model.now (length a.out.now) (length a.sums.now)
     (rw c.before.before.resume-reply.ensures at (through c))
 
-share-length : (c : tie.After-leave) → length c.leave.new.0 ≡ SHARE
-share-length c =
+share_length : (c : tie.After-leave) → length c.leave.new.0 ≡ SHARE
+share_length c =
     let a =
     c.before.before.before.before.before.before.before.before.before.before.before.before.before.args in
-    finished-length a.share.now (got c.before.before.before).size a.hearing a.logs.now
+    finished_length a.share.now (got c.before.before.before).size a.hearing a.logs.now
     a.model.now c.leave.ensures.1.0
 
 -- ---- the two ways to end
@@ -38,16 +38,16 @@ share-length c =
 returns : tie.Need-returns
 returns c =
     let a = c.before.before.before.before.before.before.before.before.before.before.args in
-    resume-refused a.share.now a.hearing a.piece a.progress a.samples.now a.logs.now
+    resume_refused a.share.now a.hearing a.piece a.progress a.samples.now a.logs.now
     a.model.now a.out.now a.sums.now _
-    c.before.before.resume-reply.ensures (answered-no c.before.passed.ensures c.if1.true)
+    c.before.before.resume-reply.ensures (answered_no c.before.passed.ensures c.if1.true)
 
 returns-2 : tie.Need-returns-2
 returns-2 c =
     let h = c.before.before.before.before.before.before.before.before.before.before.before in
     let e = h.before.before.before in
     let a = e.before.before.before.before.before.before.before.before.before.before.args in
-    resume-goes a.share.now a.hearing a.piece a.progress a.samples.now a.logs.now
+    resume_goes a.share.now a.hearing a.piece a.progress a.samples.now a.logs.now
     a.model.now a.out.now a.sums.now _
     e.before.before.resume-reply.ensures (through e) h.leave.ensures
     c.before.before.before.before.go_on.ensures
@@ -56,18 +56,18 @@ returns-2 c =
 
 leave-requires : tie.Need-leave-requires
 leave-requires c κs = let k = got c.before.before in
-    ((k.size, k.inside, k.taken, frame-fits _ _ _ _ _ _ _ _ _ k), k.right)
+    ((k.size, k.inside, k.taken, frame_fits _ _ _ _ _ _ _ _ _ k), k.right)
 
 go-on-requires : tie.Need-go-on-requires
 go-on-requires c κs = let k = got c.before.before.before.before.before.before.before.before.before in (
-  share-length c.before.before.before.before.before.before,
-  within-samples _ _ _ _ _ _ _ _ _ k,
+  share_length c.before.before.before.before.before.before,
+  within_samples _ _ _ _ _ _ _ _ _ k,
   k.fine,
   k.places,
 )
 
-pub resume-spec : {M : Type 1} → statement M
-resume-spec =
+pub resume_spec : {M : Type 1} → statement M
+resume_spec =
     tie.close
     (tie.spec
     (λ c κs. search rules)  -- resume-reply-requires

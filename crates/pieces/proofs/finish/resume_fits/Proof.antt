@@ -1,13 +1,13 @@
 -- `pieces::finish::resume_fits` meets its contract. Assumes nothing.
 use borrow.Author.Rules.{rules}
 use Rattle.rules.proofs.Tests.{tests}
-use Rattle.pieces.specs.Pieces.{resumeFits}
+use Rattle.pieces.specs.Pieces.{resume_fits}
 use Rattle.pieces.proofs.finish.resume_fits.Statement.{statement}
 use Rattle.pieces.proofs.finish.resume_fits.Tie as tie
 
-pub resume-fits-spec : {M : Type 1} → statement M
-unfolding resumeFits
-resume-fits-spec =
+pub resume_fits_spec : {M : Type 1} → statement M
+unfolding resume_fits
+resume_fits_spec =
     tie.close
     (tie.spec
     (λ c. search tests)  -- returns

@@ -6,9 +6,9 @@ use Rattle.rules.specs.Place.{get, put}
 use Rattle.pieces.proofs.waiting.gather.Statement.{statement}
 use Rattle.pieces.proofs.waiting.gather.Tie as tie
 
-pub gather-spec : {M : Type 1} → statement M
+pub gather_spec : {M : Type 1} → statement M
 unfolding get put
-gather-spec =
+gather_spec =
     tie.close
     (tie.spec
     (λ c. search rules)  -- add-end

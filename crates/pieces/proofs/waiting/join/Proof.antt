@@ -2,7 +2,7 @@
 use Rattle.rules.proofs.Common.{◌-◌, ◌≤◌, ◌++◌, ◌≡◌, length, get_or}
 use Rattle.rules.specs.F32.{f32}
 use Rattle.rules.proofs.Lists.{Filling, fills}
-use Rattle.pieces.specs.Pieces.{paddedTo}
+use Rattle.pieces.specs.Pieces.{padded_to}
 use Rattle.pieces.proofs.waiting.join.Statement.{statement}
 use Rattle.pieces.proofs.waiting.join.Tie as tie
 
@@ -13,9 +13,9 @@ invariant-loop out₀ front rest i₀ i-end out i =
 abbrev decreases-loop : tie.decreases-loop
 decreases-loop out₀ front rest i₀ i-end out i = i-end - i
 
-pub join-spec : {M : Type 1} → statement M
-unfolding paddedTo
-join-spec =
+pub join_spec : {M : Type 1} → statement M
+unfolding padded_to
+join_spec =
     tie.close
     (tie.spec
     invariant-loop

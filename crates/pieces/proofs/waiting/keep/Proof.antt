@@ -4,7 +4,7 @@ use Rattle.rules.proofs.Common.{◌-◌, ◌≡◌, ap, ◌∙◌, length, take,
 use native.Mathlib.Omega.{arith}
 use lib.Seq.{take_all}
 use Rattle.frame.specs.Share.{PART}
-use Rattle.pieces.specs.Pieces.{waitingPlace, paddedTo}
+use Rattle.pieces.specs.Pieces.{waiting_place, padded_to}
 use Rattle.rules.specs.Place.{get, put}
 use Rattle.pieces.proofs.waiting.keep.Statement.{statement}
 use Rattle.pieces.proofs.waiting.keep.Tie as tie
@@ -31,6 +31,6 @@ keep_spec =
     let room : length (take 479 (drop PART a.share.now)) ≡ 479 = simp (length-take, length-drop) (omega arith) in
     let all = take_all (length a.samples.now - a.from) (drop a.from a.samples.now)
     (simp length-drop (omega arith)) in
-    let kept : c.before.before.join.new.0 ≡ paddedTo 479 (drop a.from a.samples.now) =
+    let kept : c.before.before.join.new.0 ≡ padded_to 479 (drop a.from a.samples.now) =
     c.before.before.join.ensures ∙ rw (room, all) in
-    ap (put (waitingPlace 479) a.share.now) kept))  -- returns
+    ap (put (waiting_place 479) a.share.now) kept))  -- returns

@@ -1,6 +1,6 @@
 -- `pieces::waiting::pick` meets its contract. Assumes nothing.
 use borrow.Author.Rules.{rules}
-use Rattle.pieces.proofs.Padding.{in-front, in_rest, past}
+use Rattle.pieces.proofs.Padding.{in_front, in_rest, past}
 use Rattle.pieces.proofs.waiting.pick.Statement.{statement}
 use Rattle.pieces.proofs.waiting.pick.Tie as tie
 
@@ -10,7 +10,7 @@ pick_spec =
     (tie.spec
     (λ c. search rules)
     (λ c. search rules)
-    (λ c. search (rules, in-front))
+    (λ c. search (rules, in_front))
     (λ c. search rules)
     (λ c. search rules)
     (λ c. search rules)

@@ -6,9 +6,9 @@ use Rattle.rules.specs.Place.{get}
 use Rattle.pieces.proofs.waiting.waiting_good.Statement.{statement}
 use Rattle.pieces.proofs.waiting.waiting_good.Tie as tie
 
-pub waiting-good-spec : {M : Type 1} → statement M
+pub waiting_good_spec : {M : Type 1} → statement M
 unfolding get
-waiting-good-spec =
+waiting_good_spec =
     tie.close
     (tie.spec
     (λ c. search rules)  -- add-end
@@ -16,4 +16,4 @@ waiting-good-spec =
     (λ c. search rules)  -- part-all-good-start
     (λ c. search rules)  -- part-all-good-end
     (λ c κs. search rules)  -- all-good-requires
-    (λ c. c.all-good.ensures ∙ simp add-sub_cancel_left))  -- returns
+    (λ c. c.all_good.ensures ∙ simp add-sub_cancel_left))  -- returns

@@ -2,16 +2,16 @@
 use Rattle.rules.proofs.Common.{refl, length-set}
 use native.Mathlib.Omega.{arith}
 use borrow.Author.Rules.{rules}
-use Rattle.pitch.specs.Private.{storeFour}
+use Rattle.pitch.specs.Private.{store_four}
 use Rattle.pitch.proofs.lanes.put_four.Statement.{statement}
 use Rattle.pitch.proofs.lanes.put_four.Tie as tie
 
 returns : tie.Need-returns
-unfolding storeFour
+unfolding store_four
 returns c = refl
 
-pub put-four-spec : {M : Type 1} → statement M
-put-four-spec =
+pub put_four_spec : {M : Type 1} → statement M
+put_four_spec =
     tie.close
     (tie.spec
     (λ c. search rules)  -- mul-out

@@ -1,21 +1,21 @@
 -- `pitch::lanes::put_sixteen` meets its contract. Assumes nothing.
 use borrow.Author.Rules.{rules}
-use Rattle.pitch.specs.Private.{storeSixteen}
-use Rattle.pitch.proofs.Sums.{then-store}
+use Rattle.pitch.specs.Private.{store_sixteen}
+use Rattle.pitch.proofs.Sums.{then_store}
 use Rattle.pitch.proofs.lanes.put_sixteen.Statement.{statement}
 use Rattle.pitch.proofs.lanes.put_sixteen.Tie as tie
 
 returns : tie.Need-returns
-unfolding storeSixteen
+unfolding store_sixteen
 returns c =
-    then-store _ _ c.before.before.put-four4.ensures
-    (then-store _ _ c.before.before.before.before.before.before.put-four3.ensures
-    (then-store
+    then_store _ _ c.before.before.put-four4.ensures
+    (then_store _ _ c.before.before.before.before.before.before.put-four3.ensures
+    (then_store
     _ _ c.before.before.before.before.before.before.before.before.before.before.put-four2.ensures
     c.before.before.before.before.before.before.before.before.before.before.before.before.before.before.put_four.ensures))
 
-pub put-sixteen-spec : {M : Type 1} → statement M
-put-sixteen-spec =
+pub put_sixteen_spec : {M : Type 1} → statement M
+put_sixteen_spec =
     tie.close
     (tie.spec
     (λ c κs. search rules)  -- put-four-requires

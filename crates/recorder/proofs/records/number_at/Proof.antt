@@ -1,14 +1,14 @@
 use mathlib.Core.Path.{sym, ◌∙◌}
 use borrow.Author.Rules.{rules}
-use Rattle.sheet.proofs.Fields.{four-at}
+use Rattle.sheet.proofs.Fields.{four_at_lem}
 use Rattle.recorder.proofs.records.number_at.Statement.{statement}
 use Rattle.recorder.proofs.records.number_at.Tie as tie
 
 returns : tie.Need-returns
-returns c = let a = c.before.before.before.before.before.before.args in c.joined.ensures.0 ∙ sym (four-at a.records.now a.at)
+returns c = let a = c.before.before.before.before.before.before.args in c.joined.ensures.0 ∙ sym (four_at_lem a.records.now a.at)
 
-pub number-at-spec : {M : Type 1} → statement M
-number-at-spec =
+pub number_at_spec : {M : Type 1} → statement M
+number_at_spec =
     tie.close
     (tie.spec
     (λ c. search rules)  -- shared-slice-read-joined

@@ -2,8 +2,8 @@ use borrow.Author.Tests.{eq-eqb, ne_eqb}
 use Rattle.recording.proofs.numbers.side_at.Statement.{statement}
 use Rattle.recording.proofs.numbers.side_at.Tie as tie
 
-pub side-at-spec : {M : Type 1} → statement M
-side-at-spec =
+pub side_at_spec : {M : Type 1} → statement M
+side_at_spec =
     tie.close
     (tie.spec
     (λ c. rw (eq-eqb _ 0 c.if1.true))  -- returns

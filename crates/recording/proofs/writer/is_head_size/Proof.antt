@@ -4,8 +4,8 @@ use Rattle.recording.specs.Writer.{OPEN}
 use Rattle.recording.proofs.writer.is_head_size.Statement.{statement}
 use Rattle.recording.proofs.writer.is_head_size.Tie as tie
 
-pub is-head-size-spec : {M : Type 1} → statement M
-is-head-size-spec =
+pub is_head_size_spec : {M : Type 1} → statement M
+is_head_size_spec =
     tie.close
     (tie.spec
     (λ c. rw (eq-eqb _ OPEN c.if1.true))  -- returns

@@ -2,12 +2,12 @@ use mathlib.Core.Path.{ap, ◌∙◌}
 use borrow.Author.Rules.{rules}
 use native.Mathlib.Omega.{arith}
 use lib.ListN.{length, length-take}
-use Rattle.recording.proofs.Laid.{chunk-parts, length-name}
+use Rattle.recording.proofs.Laid.{chunk_parts, length_name}
 use Rattle.recording.proofs.writer.lay_chunk.Statement.{statement}
 use Rattle.recording.proofs.writer.lay_chunk.Tie as tie
 
-pub lay-chunk-spec : {M : Type 1} → statement M
-lay-chunk-spec =
+pub lay_chunk_spec : {M : Type 1} → statement M
+lay_chunk_spec =
     tie.close
     (tie.spec
     (λ c κs. search rules)  -- name-of-requires
@@ -19,7 +19,7 @@ lay-chunk-spec =
     (omega (
       arith,
       ap length c.before.before.before.name_of.ensures
-          ∙ length-name c.before.before.before.before.before.args.front.first
+          ∙ length_name c.before.before.before.before.before.args.front.first
           c.before.before.before.before.before.args.size,
     )))  -- lay-requires
     (λ c. search rules)  -- sub-lay
@@ -29,7 +29,7 @@ lay-chunk-spec =
     (λ c κs. search rules)  -- lay-requires-2
     (λ c. search rules)  -- same-length
     (λ c.
-    chunk-parts
+    chunk_parts
     _ _ _ c.before.before.before.before.before.before.before.before.before.before.before.before.before.args.out.now
     c.before.before.before.before.before.before.before.before.before.before.before.before.before.requires
     (c.before.before.before.before.before.before.before.lay.ensures

@@ -3,33 +3,33 @@ use native.Mathlib.Omega.{arith}
 use borrow.Author.Tests.{lt-ltb, le-ltb}
 use Rattle.rules.proofs.Refusals.{leaves}
 use Rattle.rules.proofs.Tests.{tests}
-use Rattle.sheet.specs.Rows.{trailerLaid}
-use Rattle.sheet.proofs.Laying.{length-trailer}
+use Rattle.sheet.specs.Rows.{trailer_laid}
+use Rattle.sheet.proofs.Laying.{length_trailer}
 use borrow.Author.Rules.{rules}
 use Rattle.sheet.proofs.parts.trailer.Statement.{statement}
 use Rattle.sheet.proofs.parts.trailer.Tie as tie
 
 returns : tie.Need-returns
-unfolding trailerLaid
+unfolding trailer_laid
 returns c = search tests
 
 returns-2 : tie.Need-returns-2
-unfolding trailerLaid
+unfolding trailer_laid
 returns-2 c = search tests
 
 returns-3 : tie.Need-returns-3
-unfolding trailerLaid
+unfolding trailer_laid
 returns-3 c = search tests
 
 slice-aggregate-copy : tie.Need-slice-aggregate-copy
 slice-aggregate-copy c = simp length-take (omega (arith, c.before.before.if3.false))
 
 copy-requires : tie.Need-copy-requires
-copy-requires c κs = let size = ap length c.before.before.trailer-of.ensures ∙ length-trailer _ _ _ in
+copy-requires c κs = let size = ap length c.before.before.trailer-of.ensures ∙ length_trailer _ _ _ in
     simp length-take (omega (arith, c.before.before.before.if3.false))
 
 returns-4 : tie.Need-returns-4
-unfolding trailerLaid
+unfolding trailer_laid
 returns-4 c =
     rw (
       le-ltb _ _ c.before.before.before.before.before.before.before.before.if1.false,
@@ -39,8 +39,8 @@ returns-4 c =
       c.before.before.before.before.before.trailer-of.ensures,
     )
 
-pub trailer-spec : {M : Type 1} → statement M
-trailer-spec =
+pub trailer_spec : {M : Type 1} → statement M
+trailer_spec =
     tie.close
     (tie.spec
     returns

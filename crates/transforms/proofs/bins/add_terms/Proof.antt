@@ -2,26 +2,26 @@
 use mathlib.Core.Path.{◌∙◌}
 use native.Mathlib.Omega.{arith}
 use borrow.Author.Rules.{rules}
-use Rattle.transforms.specs.Private.{plusTerms}
-use Rattle.transforms.proofs.Terms.{eight-same, by-rest}
+use Rattle.transforms.specs.Private.{plus_terms}
+use Rattle.transforms.proofs.Terms.{eight_same, by_rest}
 use Rattle.transforms.proofs.bins.add_terms.Statement.{statement}
 use Rattle.transforms.proofs.bins.add_terms.Tie as tie
 
 returns : tie.Need-returns
-unfolding plusTerms
+unfolding plus_terms
 returns c =
-    eight-same
-    (c.before.before.before.before.before.before.before.ahead.ensures ∙ by-rest _ _ _ _ _ (omega arith))
-    (c.before.before.before.before.before.before.ahead2.ensures ∙ by-rest _ _ _ _ _ (omega arith))
-    (c.before.before.before.before.before.back.ensures ∙ by-rest _ _ _ _ _ (omega arith))
-    (c.before.before.before.before.back2.ensures ∙ by-rest _ _ _ _ _ (omega arith))
-    (c.before.before.before.ahead3.ensures ∙ by-rest _ _ _ _ _ (omega arith))
-    (c.before.before.ahead4.ensures ∙ by-rest _ _ _ _ _ (omega arith))
-    (c.before.back3.ensures ∙ by-rest _ _ _ _ _ (omega arith))
-    (c.back4.ensures ∙ by-rest _ _ _ _ _ (omega arith))
+    eight_same
+    (c.before.before.before.before.before.before.before.ahead.ensures ∙ by_rest _ _ _ _ _ (omega arith))
+    (c.before.before.before.before.before.before.ahead2.ensures ∙ by_rest _ _ _ _ _ (omega arith))
+    (c.before.before.before.before.before.back.ensures ∙ by_rest _ _ _ _ _ (omega arith))
+    (c.before.before.before.before.back2.ensures ∙ by_rest _ _ _ _ _ (omega arith))
+    (c.before.before.before.ahead3.ensures ∙ by_rest _ _ _ _ _ (omega arith))
+    (c.before.before.ahead4.ensures ∙ by_rest _ _ _ _ _ (omega arith))
+    (c.before.back3.ensures ∙ by_rest _ _ _ _ _ (omega arith))
+    (c.back4.ensures ∙ by_rest _ _ _ _ _ (omega arith))
 
-pub add-terms-spec : {M : Type 1} → statement M
-add-terms-spec =
+pub add_terms_spec : {M : Type 1} → statement M
+add_terms_spec =
     tie.close
     (tie.spec
     (λ c κs. search rules)  -- ahead-requires

@@ -2,19 +2,19 @@
 use Rattle.rules.proofs.Common.{◌+◌, ◌-◌, ◌*◌, ◌≤◌, ◌≡◌, refl, ◌∙◌, length}
 use native.Mathlib.Omega.{arith}
 use borrow.Author.Rules.{rules}
-use Rattle.transforms.specs.Private.{Keeps, binPart}
+use Rattle.transforms.specs.Private.{Keeps, bin_part}
 use Rattle.transforms.proofs.Stored.{none_kept}
 use Rattle.transforms.proofs.bins.all_bins.Statement.{statement}
 use Rattle.transforms.proofs.bins.all_bins.Tie as tie
 
 abbrev invariant-loop : tie.invariant-loop
-invariant-loop parts₀ x table g₀ parts g = (g ≤ 31) × (length parts ≡ 992) × Keeps (binPart x 960) (32 * g) parts
+invariant-loop parts₀ x table g₀ parts g = (g ≤ 31) × (length parts ≡ 992) × Keeps (bin_part x 960) (32 * g) parts
 
 abbrev decreases-loop : tie.decreases-loop
 decreases-loop parts₀ x table g₀ parts g = 31 - g
 
-pub all-bins-spec : {M : Type 1} → statement M
-all-bins-spec =
+pub all_bins_spec : {M : Type 1} → statement M
+all_bins_spec =
     tie.close
     (tie.spec
     invariant-loop

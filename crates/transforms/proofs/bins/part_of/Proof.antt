@@ -4,8 +4,8 @@ use borrow.Author.Tests.{eq-eqb, ne_eqb}
 use Rattle.transforms.proofs.bins.part_of.Statement.{statement}
 use Rattle.transforms.proofs.bins.part_of.Tie as tie
 
-pub part-of-spec : {M : Type 1} → statement M
-part-of-spec =
+pub part_of_spec : {M : Type 1} → statement M
+part_of_spec =
     tie.close
     (tie.spec
     (λ c. (simp (eq-eqb _ _ c.if1.true), omega arith))  -- returns

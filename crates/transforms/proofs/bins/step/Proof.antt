@@ -1,7 +1,7 @@
 -- `transforms::bins::step` meets its contract. Assumes nothing.
 use native.Mathlib.Omega.{arith}
 use borrow.Author.Rules.{rules}
-use Rattle.transforms.proofs.Terms.{bin-stepped}
+use Rattle.transforms.proofs.Terms.{bin_stepped}
 use Rattle.transforms.proofs.bins.step.Statement.{statement}
 use Rattle.transforms.proofs.bins.step.Tie as tie
 
@@ -9,7 +9,7 @@ returns : tie.Need-returns
 returns c =
     let first = c.before.before.before.before.before.before.before in
     let pre = first.requires in
-    bin-stepped first.args.x.now _ _ _ pre.1.small pre.0.2 pre.1.sums
+    bin_stepped first.args.x.now _ _ _ pre.1.small pre.0.2 pre.1.sums
     c.before.before.before.before.read.ensures c.before.before.read2.ensures
     c.before.before.before.times.ensures c.before.times2.ensures c.add-terms.ensures
 

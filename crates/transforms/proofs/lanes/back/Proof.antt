@@ -2,19 +2,19 @@
 use mathlib.Core.Path.{◌∙◌}
 use native.Mathlib.Omega.{arith}
 use borrow.Author.Rules.{rules}
-use Rattle.transforms.proofs.Terms.{none-on, one_on, two-on, three-on, thrice}
+use Rattle.transforms.proofs.Terms.{none_on, one_on, two_on, three_on, thrice}
 use Rattle.transforms.proofs.lanes.back.Statement.{statement}
 use Rattle.transforms.proofs.lanes.back.Tie as tie
 
-pub back-spec : {M : Type 1} → statement M
-back-spec =
+pub back_spec : {M : Type 1} → statement M
+back_spec =
     tie.close
     (tie.spec
     (λ c κs. search rules)  -- plus-requires
-    (λ c. c.plus.ensures ∙ none-on _ _ _ _ (thrice _ 0 (omega arith)))
+    (λ c. c.plus.ensures ∙ none_on _ _ _ _ (thrice _ 0 (omega arith)))
     (λ c κs. search rules)  -- less-requires
-    (λ c. c.less.ensures ∙ three-on _ _ _ _ (thrice _ 1 (omega arith)))
+    (λ c. c.less.ensures ∙ three_on _ _ _ _ (thrice _ 1 (omega arith)))
     (λ c κs. search rules)  -- less-requires-2
-    (λ c. c.less2.ensures ∙ two-on _ _ _ _ (thrice _ 2 (omega arith)))
+    (λ c. c.less2.ensures ∙ two_on _ _ _ _ (thrice _ 2 (omega arith)))
     (λ c κs. search rules)  -- plus-requires-2
     (λ c. c.plus2.ensures ∙ one_on _ _ _ _ (thrice _ 3 (omega arith))))

@@ -1,7 +1,7 @@
 -- `transforms::lanes::extend` meets its contract. Assumes nothing.
 use Rattle.rules.proofs.Common.{◌-◌, ◌%◌, ◌≤◌, ◌≡◌, refl, length, get_or, nan}
 use native.Mathlib.Omega.{arith}
-use Rattle.rules.proofs.Lists.{Filling, fills, filling-begin, filling-more, filling-ended}
+use Rattle.rules.proofs.Lists.{Filling, fills, filling_begin, filling_more, filling_ended}
 use Rattle.transforms.proofs.lanes.extend.Statement.{statement}
 use Rattle.transforms.proofs.lanes.extend.Tie as tie
 
@@ -12,13 +12,13 @@ invariant-loop table₀ cosine i₀ table i =
 abbrev decreases-loop : tie.decreases-loop
 decreases-loop table₀ cosine i₀ table i = 1200 - i
 
-pub extend-spec : {M : Type 1} → statement M
-extend-spec =
+pub extend_spec : {M : Type 1} → statement M
+extend_spec =
     tie.close
     (tie.spec
     invariant-loop
     decreases-loop
-    (λ c. (omega arith, c.requires, filling-begin _ _))  -- loop-holds
+    (λ c. (omega arith, c.requires, filling_begin _ _))  -- loop-holds
     (λ c. search fills)  -- mul-table
     (λ c. search fills)  -- element-copy-out-table
     (λ c. search fills)  -- mul-table-2
@@ -27,7 +27,7 @@ extend-spec =
     (λ c. search fills)  -- loop-less
     (λ c.
     let l = c.before.before.loop in
-    (omega arith, l.invariant.1, filling-more _ _ _ l.invariant.2 (omega arith) refl))  -- loop-again
+    (omega arith, l.invariant.1, filling_more _ _ _ l.invariant.2 (omega arith) refl))  -- loop-again
     (λ c. search fills)  -- same-length
-    (λ c. filling-ended _ _ _ 1200 (omega arith) (omega arith) c.before.loop.invariant.1
+    (λ c. filling_ended _ _ _ 1200 (omega arith) (omega arith) c.before.loop.invariant.1
     c.before.loop.invariant.2))  -- returns

@@ -1,11 +1,11 @@
 -- `transforms::lanes::next` meets its contract. Assumes nothing.
 use native.Mathlib.Omega.{arith}
-use Rattle.transforms.proofs.Placed.{small, next-places}
+use Rattle.transforms.proofs.Placed.{small, next_places}
 use Rattle.transforms.proofs.lanes.next.Statement.{statement}
 use Rattle.transforms.proofs.lanes.next.Tie as tie
 
-pub next-spec : {M : Type 1} → statement M
-next-spec =
+pub next_spec : {M : Type 1} → statement M
+next_spec =
     tie.close
     (tie.spec
     (λ c. omega (arith, small _ _ _ c.before.requires.0))  -- add-wrapped
@@ -25,4 +25,4 @@ next-spec =
       small _ _ _ c.before.before.before.before.before.before.before.requires.0,
     ))  -- wrapped-requires-4
     (λ c.
-    cc (next-places _ _ _ c.before.before.before.before.before.before.before.before.requires.0)))  -- returns
+    cc (next_places _ _ _ c.before.before.before.before.before.before.before.before.requires.0)))  -- returns

@@ -2,14 +2,14 @@
 use mathlib.Core.Path.{◌≡◌, ap, ◌∙◌}
 use native.Mathlib.Omega.{arith}
 use borrow.Author.Rules.{rules}
-use Rattle.transforms.specs.Private.{sumsOf, kept}
+use Rattle.transforms.specs.Private.{sums_of, kept}
 use Rattle.transforms.specs.declared.lanes.Sums.{Sums}
-use Rattle.transforms.proofs.Stored.{sum_kept, kept-to}
+use Rattle.transforms.proofs.Stored.{sum_kept, kept_to}
 use Rattle.transforms.proofs.lanes.put.Statement.{statement}
 use Rattle.transforms.proofs.lanes.put.Tie as tie
 
 returns : tie.Need-returns
-unfolding sumsOf
+unfolding sums_of
 returns c f g e sums begin =
     let h = c.before.before in
     let g7 = h.before.before.before.before in
@@ -35,7 +35,7 @@ returns c f g e sums begin =
     (ap (λ (s : Sums). s.s6) sums ∙ sum_kept f g 6 _ (omega arith) (omega arith)) k in
     let m = h.put-four8.ensures (kept f)
     (ap (λ (s : Sums). s.s7) sums ∙ sum_kept f g 7 _ (omega arith) (omega arith)) l in
-    kept-to f _ _ (omega arith) m
+    kept_to f _ _ (omega arith) m
 
 pub put_spec : {M : Type 1} → statement M
 put_spec =

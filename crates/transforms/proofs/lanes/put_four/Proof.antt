@@ -2,12 +2,12 @@
 use native.Mathlib.Omega.{arith}
 use borrow.Author.Rules.{rules}
 use lib.ListN.{length-set}
-use Rattle.transforms.proofs.Stored.{four-stored}
+use Rattle.transforms.proofs.Stored.{four_stored}
 use Rattle.transforms.proofs.lanes.put_four.Statement.{statement}
 use Rattle.transforms.proofs.lanes.put_four.Tie as tie
 
-pub put-four-spec : {M : Type 1} → statement M
-put-four-spec =
+pub put_four_spec : {M : Type 1} → statement M
+put_four_spec =
     tie.close
     (tie.spec
     (λ c. search rules)  -- mul-parts
@@ -22,4 +22,4 @@ put-four-spec =
     (λ c. search rules)  -- mul-parts-4
     (λ c. simp length-set (omega arith))  -- slice-write-parts-4
     (λ c. search rules)  -- same-length
-    (λ c f. four-stored f _ _ _ (omega arith)))  -- returns
+    (λ c f. four_stored f _ _ _ (omega arith)))  -- returns

@@ -1,6 +1,6 @@
 -- `transforms::lanes::read` meets its contract. Assumes nothing.
 use native.Mathlib.Omega.{arith}
-use Rattle.transforms.proofs.Placed.{small, read-four}
+use Rattle.transforms.proofs.Placed.{small, read_four}
 use Rattle.transforms.proofs.lanes.read.Statement.{statement}
 use Rattle.transforms.proofs.lanes.read.Tie as tie
 
@@ -27,4 +27,4 @@ read_spec =
     ))  -- element-copy-out-t25
     (λ c.
     let pre = c.before.before.before.before.before.before.before.before.requires in
-    read-four _ _ _ _ _ pre.0 pre.1 pre.2))  -- returns
+    read_four _ _ _ _ _ pre.0 pre.1 pre.2))  -- returns

@@ -6,8 +6,8 @@ use Rattle.transforms.proofs.Stored.{here}
 use Rattle.transforms.proofs.lanes.spot.Statement.{statement}
 use Rattle.transforms.proofs.lanes.spot.Tie as tie
 
-pub spot-spec : {M : Type 1} → statement M
-spot-spec =
+pub spot_spec : {M : Type 1} → statement M
+spot_spec =
     tie.close
     (tie.spec
     (λ c. search rules)  -- mul-result

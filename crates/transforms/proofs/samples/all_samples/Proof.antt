@@ -2,19 +2,19 @@
 use Rattle.rules.proofs.Common.{◌+◌, ◌-◌, ◌*◌, ◌≤◌, ◌≡◌, refl, ◌∙◌, length}
 use native.Mathlib.Omega.{arith}
 use borrow.Author.Rules.{rules}
-use Rattle.transforms.specs.Private.{Keeps, wholePart}
+use Rattle.transforms.specs.Private.{Keeps, whole_part}
 use Rattle.transforms.proofs.Stored.{none_kept}
 use Rattle.transforms.proofs.samples.all_samples.Statement.{statement}
 use Rattle.transforms.proofs.samples.all_samples.Tie as tie
 
 abbrev invariant-loop : tie.invariant-loop
-invariant-loop parts₀ x table g₀ parts g = (g ≤ 31) × (length parts ≡ 992) × Keeps (wholePart x) (32 * g) parts
+invariant-loop parts₀ x table g₀ parts g = (g ≤ 31) × (length parts ≡ 992) × Keeps (whole_part x) (32 * g) parts
 
 abbrev decreases-loop : tie.decreases-loop
 decreases-loop parts₀ x table g₀ parts g = 31 - g
 
-pub all-samples-spec : {M : Type 1} → statement M
-all-samples-spec =
+pub all_samples_spec : {M : Type 1} → statement M
+all_samples_spec =
     tie.close
     (tie.spec
     invariant-loop

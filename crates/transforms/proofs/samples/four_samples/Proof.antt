@@ -2,20 +2,20 @@
 use Rattle.rules.proofs.Common.{◌+◌, ◌-◌, ◌*◌, ◌≤◌, ◌≡◌, ◌∙◌}
 use native.Mathlib.Omega.{arith}
 use borrow.Author.Rules.{rules}
-use Rattle.transforms.specs.Private.{Reached, samplePart}
-use Rattle.transforms.proofs.Placed.{places-one}
-use Rattle.transforms.proofs.Terms.{inverse-start}
+use Rattle.transforms.specs.Private.{Reached, sample_part}
+use Rattle.transforms.proofs.Placed.{places_one}
+use Rattle.transforms.proofs.Terms.{inverse_start}
 use Rattle.transforms.proofs.samples.four_samples.Statement.{statement}
 use Rattle.transforms.proofs.samples.four_samples.Tie as tie
 
 abbrev invariant-loop : tie.invariant-loop
-invariant-loop x table n t₀ i₀ t i = (i ≤ 119) × Reached (samplePart x) table n (4 * i + 1) t.s t.m
+invariant-loop x table n t₀ i₀ t i = (i ≤ 119) × Reached (sample_part x) table n (4 * i + 1) t.s t.m
 
 abbrev decreases-loop : tie.decreases-loop
 decreases-loop x table n t₀ i₀ t i = 119 - i
 
-pub four-samples-spec : {M : Type 1} → statement M
-four-samples-spec =
+pub four_samples_spec : {M : Type 1} → statement M
+four_samples_spec =
     tie.close
     (tie.spec
     invariant-loop
@@ -26,9 +26,9 @@ four-samples-spec =
     (λ c. search rules)  -- add-t11
     (λ c. search rules)  -- add-t12
     (λ c. let first = c.before.before.before in
-    let sums = c.all_of.ensures ∙ inverse-start first.args.x.now first.args.n in (
+    let sums = c.all_of.ensures ∙ inverse_start first.args.x.now first.args.n in (
       omega arith,
-      record { by = first.requires.1; small = first.requires.2; sums = sums; here = places-one _ first.requires.2 },
+      record { by = first.requires.1; small = first.requires.2; sums = sums; here = places_one _ first.requires.2 },
     ))  -- loop-holds
     (λ c. search rules)  -- mul-four-steps
     (λ c. search rules)  -- add-four-steps

@@ -5,8 +5,8 @@ use Rattle.transforms.proofs.Terms.{onward}
 use Rattle.transforms.proofs.samples.four_steps.Statement.{statement}
 use Rattle.transforms.proofs.samples.four_steps.Tie as tie
 
-pub four-steps-spec : {M : Type 1} → statement M
-four-steps-spec =
+pub four_steps_spec : {M : Type 1} → statement M
+four_steps_spec =
     tie.close
     (tie.spec
     (λ c. search rules)  -- add-b

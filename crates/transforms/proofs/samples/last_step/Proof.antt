@@ -1,7 +1,7 @@
 -- `transforms::samples::last_step` meets its contract. Assumes nothing.
 use native.Mathlib.Omega.{arith}
 use borrow.Author.Rules.{rules}
-use Rattle.transforms.proofs.Terms.{last-stepped}
+use Rattle.transforms.proofs.Terms.{last_stepped}
 use Rattle.transforms.proofs.samples.last_step.Statement.{statement}
 use Rattle.transforms.proofs.samples.last_step.Tie as tie
 
@@ -9,13 +9,13 @@ returns : tie.Need-returns
 returns c =
     let first = c.before.before.before.before.before.before.before in
     let pre = first.requires in
-    last-stepped first.args.x.now
+    last_stepped first.args.x.now
     (c.before.before.before.before.before.before.shared-slice-known.given 0) _ pre.1.small pre.1.sums
     c.before.before.before.before.read.ensures c.before.before.read2.ensures
     c.before.before.before.times.ensures c.before.times2.ensures c.add-terms.ensures
 
-pub last-step-spec : {M : Type 1} → statement M
-last-step-spec =
+pub last_step_spec : {M : Type 1} → statement M
+last_step_spec =
     tie.close
     (tie.spec
     (λ c. search rules)  -- shared-slice-read-v

@@ -6,8 +6,8 @@ use Rattle.transforms.proofs.Terms.{onward}
 use Rattle.transforms.proofs.samples.last_steps.Statement.{statement}
 use Rattle.transforms.proofs.samples.last_steps.Tie as tie
 
-pub last-steps-spec : {M : Type 1} → statement M
-last-steps-spec =
+pub last_steps_spec : {M : Type 1} → statement M
+last_steps_spec =
     tie.close
     (tie.spec
     (λ c κs. search rules)  -- step-requires

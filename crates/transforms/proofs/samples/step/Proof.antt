@@ -1,7 +1,7 @@
 -- `transforms::samples::step` meets its contract. Assumes nothing.
 use native.Mathlib.Omega.{arith}
 use borrow.Author.Rules.{rules}
-use Rattle.transforms.proofs.Terms.{sample-stepped}
+use Rattle.transforms.proofs.Terms.{sample_stepped}
 use Rattle.transforms.proofs.samples.step.Statement.{statement}
 use Rattle.transforms.proofs.samples.step.Tie as tie
 
@@ -10,7 +10,7 @@ returns c =
     let first = c.before.before.before.before.before.before.before.before.before.before.before in
     let pre = first.requires in
     let known = c.before.before.before.before.before.before.before.before.before.before.shared-slice-known in
-    sample-stepped first.args.x.now (known.given 0) _ pre.1.small _ _ pre.0.3 pre.1.sums
+    sample_stepped first.args.x.now (known.given 0) _ pre.1.small _ _ pre.0.3 pre.1.sums
     c.before.before.before.before.before.before.before.read.ensures
     c.before.before.before.before.before.before.read2.ensures pre.0.1
     c.before.before.before.before.before.times.ensures c.before.before.before.before.times2.ensures

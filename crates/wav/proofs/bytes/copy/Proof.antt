@@ -2,7 +2,7 @@ use Rattle.rules.proofs.Common.{◌-◌, ◌≤◌, ◌++◌, ◌≡◌, refl, �
 use native.Mathlib.Omega.{arith}
 use Rattle.rules.specs.Tab.{tab}
 use Rattle.rules.proofs.Loops.{turns}
-use Rattle.rules.proofs.Lists.{tab-none, tab-more, tab-done, tab-id}
+use Rattle.rules.proofs.Lists.{tab_none, tab_more, tab_done, tab_id}
 use Rattle.wav.proofs.bytes.copy.Statement.{statement}
 use Rattle.wav.proofs.bytes.copy.Tie as tie
 
@@ -20,7 +20,7 @@ copy_spec =
     (tie.spec
     invariant-loop
     decreases-loop
-    (λ c. (omega arith, omega arith, omega arith, omega arith, tab-none _ _))  -- loop-holds
+    (λ c. (omega arith, omega arith, omega arith, omega arith, tab_none _ _))  -- loop-holds
     (λ c. search turns)  -- shared-slice-read-out
     (λ c. search turns)  -- slice-write-out
     (λ c. search turns)  -- add-i
@@ -31,10 +31,10 @@ copy_spec =
       omega arith,
       simp length-set l.invariant.2,
       l.invariant.3,
-      tab-more _ _ _ _ _ l.invariant.4 refl (omega arith),
+      tab_more _ _ _ _ _ l.invariant.4 refl (omega arith),
     ))  -- loop-again
     (λ c. search turns)  -- same-length
     (λ c.
     let l = c.before.loop in
-    l.invariant.4 ∙ tab-done _ _ _ (length c.before.before.args.bytes.now) (omega arith) (omega arith)
-    ∙ tab-id c.before.before.args.bytes.now 0))  -- returns
+    l.invariant.4 ∙ tab_done _ _ _ (length c.before.before.args.bytes.now) (omega arith) (omega arith)
+    ∙ tab_id c.before.before.args.bytes.now 0))  -- returns

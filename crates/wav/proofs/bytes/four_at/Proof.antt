@@ -1,15 +1,15 @@
 use mathlib.Core.Path.{sym, ◌∙◌}
 use borrow.Author.Rules.{rules}
-use Rattle.sheet.proofs.Fields.{four-at}
+use Rattle.sheet.proofs.Fields.{four_at_lem}
 use Rattle.wav.proofs.bytes.four_at.Statement.{statement}
 use Rattle.wav.proofs.bytes.four_at.Tie as tie
 
 returns : tie.Need-returns
 returns c = let a = c.before.before.before.before.before.before.args in
-    (c.joined.ensures.0 ∙ sym (four-at a.bytes.now a.at), c.joined.ensures.1)
+    (c.joined.ensures.0 ∙ sym (four_at_lem a.bytes.now a.at), c.joined.ensures.1)
 
-pub four-at-spec : {M : Type 1} → statement M
-four-at-spec =
+pub four_at_spec : {M : Type 1} → statement M
+four_at_spec =
     tie.close
     (tie.spec
     (λ c. search rules)  -- shared-slice-read-joined

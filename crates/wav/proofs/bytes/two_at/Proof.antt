@@ -32,8 +32,8 @@ returns c = (
   ),
 )
 
-pub two-at-spec : {M : Type 1} → statement M
-two-at-spec =
+pub two_at_spec : {M : Type 1} → statement M
+two_at_spec =
     tie.close
     (tie.spec
     (λ c. search rules)  -- shared-slice-read-result

@@ -32,8 +32,8 @@ returns-7 : tie.Need-returns-7
 unfolding format_of
 returns-7 c = (search tests, omega arith)
 
-pub format-of-spec : {M : Type 1} → statement M
-format-of-spec = tie.close
+pub format_of_spec : {M : Type 1} → statement M
+format_of_spec = tie.close
     (tie.spec
     returns
     returns-2

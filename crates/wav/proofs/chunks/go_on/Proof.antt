@@ -13,8 +13,8 @@ returns-2 : tie.Need-returns-2
 unfolding step_of
 returns-2 c = rw (ne_eqb _ 0 c.before.if1.false) c.chunk.ensures
 
-pub go-on-spec : {M : Type 1} → statement M
-go-on-spec = tie.close
+pub go_on_spec : {M : Type 1} → statement M
+go_on_spec = tie.close
     (tie.spec
     (λ c κs. search rules)  -- front-requires
     returns

@@ -2,17 +2,17 @@ use mathlib.Core.Path.{sym, ap, ◌∙◌}
 use borrow.Author.Tests.{eq-eqb}
 use Rattle.rules.proofs.Tests.{tests}
 use Rattle.rules.proofs.Refusals.{leaves}
-use Rattle.wav.specs.Chunks.{stepTold}
+use Rattle.wav.specs.Chunks.{step_told}
 use borrow.Author.Rules.{rules}
 use Rattle.wav.proofs.chunks.read.Statement.{statement}
 use Rattle.wav.proofs.chunks.read.Tie as tie
 
 returns : tie.Need-returns
-unfolding stepTold
+unfolding step_told
 returns c = search tests
 
 returns-2 : tie.Need-returns-2
-unfolding stepTold
+unfolding step_told
 returns-2 c =
     rw (
       eq-eqb _ 5
@@ -22,7 +22,7 @@ returns-2 c =
     ) (leaves c.before.before.tell.ensures)
 
 returns-3 : tie.Need-returns-3
-unfolding stepTold
+unfolding step_told
 returns-3 c =
     rw (
       eq-eqb _ 5
@@ -32,7 +32,7 @@ returns-3 c =
     ) (leaves c.before.before.tell2.ensures)
 
 returns-4 : tie.Need-returns-4
-unfolding stepTold
+unfolding step_told
 returns-4 c =
     rw (
       eq-eqb _ 5 c.before.before.before.before.before.before.before.before.before.if1.false,

@@ -1,6 +1,6 @@
 use native.Mathlib.Omega.{arith}
 use Rattle.rules.proofs.Common.{[], ◌∷◌, length-set}
-use Rattle.rules.proofs.Places.{all-stored}
+use Rattle.rules.proofs.Places.{all_stored}
 use borrow.Author.Rules.{rules}
 use Rattle.wav.proofs.chunks.tell.Statement.{statement}
 use Rattle.wav.proofs.chunks.tell.Tie as tie
@@ -10,10 +10,10 @@ slice-write-numbers-5 c = simp length-set (omega (arith, c.requires))
 
 returns : tie.Need-returns
 returns c = let h = c.args.head in
-    all-stored c.args.numbers.now (h.place ∷ h.format ∷ h.channels ∷ h.rate ∷ h.size ∷ []) c.requires
+    all_stored c.args.numbers.now (h.place ∷ h.format ∷ h.channels ∷ h.rate ∷ h.size ∷ []) c.requires
 
-pub tell-spec : {M : Type 1} → statement M
-tell-spec =
+pub tell_spec : {M : Type 1} → statement M
+tell_spec =
     tie.close
     (tie.spec
     (λ c. search rules)  -- slice-write-numbers

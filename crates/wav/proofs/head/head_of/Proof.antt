@@ -1,15 +1,15 @@
 use Rattle.sheet.specs.Sheet.{four}
-use Rattle.wav.specs.Head.{headOf}
+use Rattle.wav.specs.Head.{head_of}
 use borrow.Author.Rules.{rules}
 use Rattle.wav.proofs.head.head_of.Statement.{statement}
 use Rattle.wav.proofs.head.head_of.Tie as tie
 
 returns : tie.Need-returns
-unfolding headOf four
+unfolding head_of four
 returns c = cc
 
-pub head-of-spec : {M : Type 1} → statement M
-head-of-spec =
+pub head_of_spec : {M : Type 1} → statement M
+head_of_spec =
     tie.close
     (tie.spec
     (λ c κs. search rules)  -- riff-size-requires

@@ -1,7 +1,7 @@
 use Rattle.rules.proofs.Common.{◌≡◌, ap, ◌∙◌, length, length-take}
 use native.Mathlib.Omega.{arith}
 use Rattle.checksum.specs.Checksum.{crc32}
-use Rattle.wav.proofs.Seals.{length-said, laid}
+use Rattle.wav.proofs.Seals.{length_said, laid}
 use borrow.Author.Rules.{rules}
 use Rattle.wav.proofs.seal.lay.Statement.{statement}
 use Rattle.wav.proofs.seal.lay.Tie as tie
@@ -11,7 +11,7 @@ slice-aggregate-copy c = simp length-take (omega arith)
 
 copy-requires : tie.Need-copy-requires
 copy-requires c κs = let size = ap length c.before.before.before.before.before.said-by.ensures
-    ∙ length-said _ _ in simp length-take (omega arith)
+    ∙ length_said _ _ in simp length-take (omega arith)
 
 returns : tie.Need-returns
 returns c =
@@ -20,13 +20,13 @@ returns c =
     laid a.word a.seal a.out.now
     c.before.before.before.before.before.before.before.before.before.before.before.before.before.before.before.requires (c.before.before.before.before.before.before.before.copy.ensures
     ∙ c.before.before.before.before.before.before.before.before.before.before.before.before.before.said-by.ensures) (c.before.before.copy2.ensures
-    ∙ c.before.before.before.before.before.before.before.before.before.before.four-of.ensures)
+    ∙ c.before.before.before.before.before.before.before.before.before.before.four_of.ensures)
     (c.before.before.before.before.before.before.before.before.before.before.before.crc32.ensures
     ∙ ap (crc32 0)
     c.before.before.before.before.before.before.before.before.before.before.before.before.before.said-by.ensures)
 
-pub lay-spec : {M : Type 1} → statement M
-lay-spec =
+pub lay_spec : {M : Type 1} → statement M
+lay_spec =
     tie.close
     (tie.spec
     (λ c κs. search rules)  -- said-by-requires

@@ -1,7 +1,7 @@
 use native.Mathlib.Omega.{arith}
 use lib.ListN.{length-take}
 use borrow.Author.Rules.{rules}
-use Rattle.wav.proofs.Seals.{at-51, at-51', at-52, at-53, at-whole}
+use Rattle.wav.proofs.Seals.{at_51, at_51', at_52, at_53, at_whole}
 use Rattle.wav.proofs.seal.read.Statement.{statement}
 use Rattle.wav.proofs.seal.read.Tie as tie
 
@@ -10,21 +10,21 @@ slice-aggregate-crc32 c = simp length-take (omega arith)
 
 returns-2 : tie.Need-returns-2
 returns-2 c =
-    at-51' _ _ c.before.before.before.if1.false c.before.before.four-at.ensures.0
+    at_51' _ _ c.before.before.before.if1.false c.before.before.four_at.ensures.0
     c.before.word_of.ensures c.if2.true
 
 returns-3 : tie.Need-returns-3
 returns-3 c =
-    at-52 _ _ c.before.before.before.before.before.before.before.if1.false
-    c.before.before.before.before.before.before.four-at.ensures.0
+    at_52 _ _ c.before.before.before.before.before.before.before.if1.false
+    c.before.before.before.before.before.before.four_at.ensures.0
     c.before.before.before.before.before.word_of.ensures c.before.before.before.before.if2.false
     c.before.before.before.four-at2.ensures.0 c.before.crc32.ensures c.if3.true
 
 returns-4 : tie.Need-returns-4
 returns-4 c =
-    at-whole
+    at_whole
     _ _ c.before.before.before.before.before.before.before.before.before.before.before.before.before.before.before.if1.false
-    c.before.before.before.before.before.before.before.before.before.before.before.before.before.before.four-at.ensures.0
+    c.before.before.before.before.before.before.before.before.before.before.before.before.before.before.four_at.ensures.0
     c.before.before.before.before.before.before.before.before.before.before.before.before.before.word_of.ensures
     c.before.before.before.before.before.before.before.before.before.before.before.before.if2.false
     c.before.before.before.before.before.before.before.before.before.before.before.four-at2.ensures.0
@@ -38,9 +38,9 @@ returns-4 c =
 
 returns-5 : tie.Need-returns-5
 returns-5 c =
-    at-53
+    at_53
     _ _ c.before.before.before.before.before.before.before.before.before.before.before.before.before.before.if1.false
-    c.before.before.before.before.before.before.before.before.before.before.before.before.before.four-at.ensures.0
+    c.before.before.before.before.before.before.before.before.before.before.before.before.before.four_at.ensures.0
     c.before.before.before.before.before.before.before.before.before.before.before.before.word_of.ensures c.before.before.before.before.before.before.before.before.before.before.before.if2.false
     c.before.before.before.before.before.before.before.before.before.before.four-at2.ensures.0
     c.before.before.before.before.before.before.before.before.crc32.ensures
@@ -52,7 +52,7 @@ pub read_spec : {M : Type 1} → statement M
 read_spec =
     tie.close
     (tie.spec
-    (λ c. at-51 _ _ c.if1.true)  -- returns
+    (λ c. at_51 _ _ c.if1.true)  -- returns
     (λ c κs. search rules)  -- four-at-requires
     (λ c κs. search rules)  -- word-of-requires
     returns-2

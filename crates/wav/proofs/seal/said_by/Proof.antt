@@ -8,8 +8,8 @@ unfolding said
 returns c =
     rw (← c.before.before.before.word_of.ensures, ← c.before.before.letters.ensures) c.twenty.ensures
 
-pub said-by-spec : {M : Type 1} → statement M
-said-by-spec =
+pub said_by_spec : {M : Type 1} → statement M
+said_by_spec =
     tie.close
     (tie.spec
     (λ c κs. search rules)  -- word-of-requires

@@ -37,8 +37,8 @@ returns c =
     (also c.before.low19.ensures
     (also c.low20.ensures refl)))))))))))))))))))
 
-pub twenty-spec : {M : Type 1} → statement M
-twenty-spec =
+pub twenty_spec : {M : Type 1} → statement M
+twenty_spec =
     tie.close
     (tie.spec
     (λ c κs. search rules)  -- low-requires-1

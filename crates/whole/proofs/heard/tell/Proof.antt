@@ -3,7 +3,7 @@ use borrow.Author.Rules.{rules}
 use Rattle.rules.proofs.Common.{ℕ, suc, ◌+◌, ◌*◌, ◌≤◌, List, [], ◌∷◌, ◌≡◌, ap, ◌∙◌, length, set, length-set, Float}
 use native.Mathlib.Omega.{arith}
 use Rattle.rules.specs.Place.{put}
-use Rattle.rules.proofs.Places.{put-sets}
+use Rattle.rules.proofs.Places.{put_sets}
 use Rattle.frame.specs.Written.{from, over}
 use Rattle.whole.proofs.heard.tell.Statement.{statement}
 use Rattle.whole.proofs.heard.tell.Tie as tie
@@ -13,18 +13,18 @@ stored : (xs : List Float) (i : ℕ) (a b c : Float) → i + 3 ≤ length xs
 stored xs i a b c h =
     let one : suc i ≡ i + 1 = omega arith in
     let two : suc (suc i) ≡ i + 2 = omega arith in
-    rw (two, one) at (put-sets xs (a ∷ b ∷ c ∷ []) i h)
+    rw (two, one) at (put_sets xs (a ∷ b ∷ c ∷ []) i h)
 
 returns : tie.Need-returns
 returns c =
     let s = c.before.before in
     let a = s.args in
-    let r = c.three-of.result in
+    let r = c.three_of.result in
     stored a.answers.now (3 * a.j) r.heard r.voice r.energy s.requires
-    ∙ ap (λ (xs : List Float). over (from (3 * a.j) xs) a.answers.now) c.three-of.ensures
+    ∙ ap (λ (xs : List Float). over (from (3 * a.j) xs) a.answers.now) c.three_of.ensures
 
-pub tell-spec : {M : Type 1} → statement M
-tell-spec =
+pub tell_spec : {M : Type 1} → statement M
+tell_spec =
     tie.close
     (tie.spec
     (λ c κs. search rules)  -- three-of-requires

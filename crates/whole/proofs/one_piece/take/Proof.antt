@@ -5,13 +5,13 @@ use native.Mathlib.Omega.{arith}
 use Rattle.rules.proofs.Common.{◌*◌, ◌<◌, ◌≡◌}
 use lib.ListN.{length}
 use Rattle.rules.specs.Place.{get, put}
-use Rattle.rules.proofs.Tests.{answered-no, answered-yes}
+use Rattle.rules.proofs.Tests.{answered_no, answered_yes}
 use Rattle.frame.specs.Share.{SHARE}
 use Rattle.desk.specs.Gate.{BENCHES}
 use Rattle.desk.proofs.Turned.{through}
-use Rattle.whole.specs.Whole.{takenOn, take}
-use Rattle.whole.proofs.Accepted.{Take, take-known}
-use Rattle.whole.proofs.Behind.{take-ready, refused, done-there}
+use Rattle.whole.specs.Whole.{taken_on, take}
+use Rattle.whole.proofs.Accepted.{Take, take_known}
+use Rattle.whole.proofs.Behind.{take_ready, refused, done_there}
 use Rattle.whole.proofs.one_piece.take.Statement.{statement}
 use Rattle.whole.proofs.one_piece.take.Tie as tie
 
@@ -21,9 +21,9 @@ known : (c : tie.Else1) → let a = c.before.before.before.before.before.before.
     (length a.answers.now)
 known c =
     let a = c.before.before.before.before.before.before.before.before.before.args in
-    take-known BENCHES a.side.0 a.rec a.store.now a.piece.now a.model.now (length a.out.now)
+    take_known BENCHES a.side.0 a.rec a.store.now a.piece.now a.model.now (length a.out.now)
     (length a.answers.now)
-    c.before.before.take-reply.ensures (answered-yes c.before.passed.ensures c.if1.false)
+    c.before.before.take-reply.ensures (answered_yes c.before.passed.ensures c.if1.false)
 
 inside : (c : tie.Else1) → let a = c.before.before.before.before.before.before.before.before.before.args in
     (a.side.0 < BENCHES) × (length a.store.now ≡ BENCHES * SHARE)
@@ -35,16 +35,16 @@ unfolding get
 dictate-requires c κs =
     let e = c.before.before.before.before in
     let a = e.before.before.before.before.before.before.before.before.before.args in
-    take-ready BENCHES a.side.0 a.rec a.store.now a.piece.now a.model.now (known e)
+    take_ready BENCHES a.side.0 a.rec a.store.now a.piece.now a.model.now (known e)
 
 returns : tie.Need-returns
 unfolding take
 returns c =
     let r = c.before.before in
     let a = r.before.before.before.before.before.before.before.args in
-    refused _ a.side.0 a.rec a.store.now (λ share. takenOn a.rec share a.piece.now a.model.now)
+    refused _ a.side.0 a.rec a.store.now (λ share. taken_on a.rec share a.piece.now a.model.now)
     r.take-reply.ensures
-    (answered-no c.before.passed.ensures c.if1.true)
+    (answered_no c.before.passed.ensures c.if1.true)
 
 returns-2 : tie.Need-returns-2
 unfolding take get put
@@ -53,9 +53,9 @@ returns-2 c =
     let e = d.before.before.before.before.before in
     let r = e.before.before in
     let a = r.before.before.before.before.before.before.before.args in
-    done-there _ a.side.0 a.rec a.store.now
-    (λ share. takenOn a.rec share a.piece.now a.model.now) r.take-reply.ensures
-    (answered-yes e.before.passed.ensures e.if1.false) d.dictate.ensures
+    done_there _ a.side.0 a.rec a.store.now
+    (λ share. taken_on a.rec share a.piece.now a.model.now) r.take-reply.ensures
+    (answered_yes e.before.passed.ensures e.if1.false) d.dictate.ensures
 
 pub take_spec : {M : Type 1} → statement M
 take_spec =

@@ -4,22 +4,22 @@ use Rattle.rules.proofs.Common.{ℕ, ◌+◌, ◌-◌, ◌*◌, ◌≤◌, ◌<�
 use native.Mathlib.Nat.{add-sub_cancel_left}
 use native.Mathlib.Omega.{arith}
 use Rattle.rules.specs.Place.{get}
-use Rattle.rules.proofs.Places.{get-get}
-use Rattle.rules.proofs.Tests.{answered-no, answered-yes}
+use Rattle.rules.proofs.Places.{get_get}
+use Rattle.rules.proofs.Tests.{answered_no, answered_yes}
 use Rattle.frame.specs.Share.{SHARE, PART}
-use Rattle.pieces.specs.Pieces.{waitingPlace, waitingIn}
+use Rattle.pieces.specs.Pieces.{waiting_place, waiting_in}
 use Rattle.desk.specs.Gate.{BENCHES, share_of}
-use Rattle.whole.proofs.Accepted.{good-bad, good-rest}
+use Rattle.whole.proofs.Accepted.{good_bad, good_rest}
 use Rattle.whole.proofs.refusals.both_good.Statement.{statement}
 use Rattle.whole.proofs.refusals.both_good.Tie as tie
 
 -- the samples that wait on a side, as a part of the store
 lent : (side waiting : ℕ) (store : List Float) → side < BENCHES → length store ≡ BENCHES * SHARE → waiting ≤ 479
     → let start = side * SHARE + PART in
-    get (record { at = start; size = start + waiting - start }) store ≡ waitingIn waiting (get (share_of side) store)
+    get (record { at = start; size = start + waiting - start }) store ≡ waiting_in waiting (get (share_of side) store)
 lent side waiting store h l w =
     rw (add-sub_cancel_left (side * SHARE + PART) waiting)
-    (sym (get-get (share_of side) (waitingPlace waiting) store (omega arith) (omega arith)))
+    (sym (get_get (share_of side) (waiting_place waiting) store (omega arith) (omega arith)))
 
 returns : tie.Need-returns
 unfolding get
@@ -27,7 +27,7 @@ returns c =
     let s = c.before.before.before.before.before in
     let a = s.args in
     let part = lent a.side a.waiting a.store.now s.requires.0 s.requires.1 s.requires.2 in
-    sym (good-bad _ a.samples.now (rw part at (answered-no c.before.all-good.ensures c.if1.true)))
+    sym (good_bad _ a.samples.now (rw part at (answered_no c.before.all_good.ensures c.if1.true)))
 
 returns-2 : tie.Need-returns-2
 unfolding get
@@ -37,10 +37,10 @@ returns-2 c =
     let a = s.args in
     let part = lent a.side a.waiting a.store.now s.requires.0 s.requires.1 s.requires.2 in
     c.all-good2.ensures ∙ sym
-    (good-rest _ a.samples.now (rw part at (answered-yes e.before.all-good.ensures e.if1.false)))
+    (good_rest _ a.samples.now (rw part at (answered_yes e.before.all_good.ensures e.if1.false)))
 
-pub both-good-spec : {M : Type 1} → statement M
-both-good-spec =
+pub both_good_spec : {M : Type 1} → statement M
+both_good_spec =
     tie.close
     (tie.spec
     (λ c. search rules)  -- mul-start

@@ -2,21 +2,21 @@
 use borrow.Author.Rules.{rules}
 use mathlib.Core.Path.{◌∙◌}
 use borrow.Author.Tests.{ne_eqb}
-use Rattle.whole.specs.Whole.{frameReply}
+use Rattle.whole.specs.Whole.{frame_reply}
 use Rattle.whole.proofs.refusals.frame_reply.Statement.{statement}
 use Rattle.whole.proofs.refusals.frame_reply.Tie as tie
 
 returns-4 : tie.Need-returns-4
-unfolding frameReply
+unfolding frame_reply
 returns-4 c =
     let f = c.before.before in
     let e = f.before.before in
     c.last-tests.ensures
-    ∙ rw (← e.before.gate.ensures, e.if1.false, f.before.if2.false, f.if3.false, c.before.all-good.ensures)
+    ∙ rw (← e.before.gate.ensures, e.if1.false, f.before.if2.false, f.if3.false, c.before.all_good.ensures)
 
-pub frame-reply-spec : {M : Type 1} → statement M
-unfolding frameReply
-frame-reply-spec =
+pub frame_reply_spec : {M : Type 1} → statement M
+unfolding frame_reply
+frame_reply_spec =
     tie.close
     (tie.spec
     (λ c κs. search rules)  -- gate-requires

@@ -3,18 +3,18 @@ use borrow.Author.Rules.{rules}
 use native.Mathlib.Omega.{arith}
 use Rattle.rules.proofs.Common.{◌≤◌, sym, ◌∙◌, length}
 use borrow.Author.Tests.{ne_eqb, le-leb, lt-leb}
-use Rattle.rules.proofs.Tests.{answered-no, answered-yes}
+use Rattle.rules.proofs.Tests.{answered_no, answered_yes}
 use Rattle.desk.specs.Gate.{BENCHES}
 use Rattle.desk.proofs.Turned.{through}
-use Rattle.whole.specs.Whole.{takeReply}
-use Rattle.whole.proofs.Accepted.{fits-sizes}
+use Rattle.whole.specs.Whole.{take_reply}
+use Rattle.whole.proofs.Accepted.{fits_sizes}
 use Rattle.whole.proofs.refusals.take_reply.Statement.{statement}
 use Rattle.whole.proofs.refusals.take_reply.Tie as tie
 
 -- the piece's numbers, past the test of its lengths
 sizes : (c : tie.Else2) → let a = c.before.before.before.before.before.before.before.args in
     (a.rec.waiting ≤ 479) × (length a.piece.now ≤ 4096)
-sizes c = let f = fits-sizes _ _ _ 22 (answered-yes c.before.piece-fits.ensures c.if2.false) in (f.0, f.2)
+sizes c = let f = fits_sizes _ _ _ 22 (answered_yes c.before.piece-fits.ensures c.if2.false) in (f.0, f.2)
 
 both-good-requires : tie.Need-both-good-requires
 both-good-requires c κs =
@@ -26,7 +26,7 @@ both-good-requires c κs =
     (t.0, t.1, (sizes o).0)
 
 returns-4 : tie.Need-returns-4
-unfolding takeReply
+unfolding take_reply
 returns-4 c =
     let f = c.before.before in
     let o = f.before.before in
@@ -35,14 +35,14 @@ returns-4 c =
     ∙ rw (
       ← e.before.gate.ensures,
       e.if1.false,
-      answered-yes o.before.piece-fits.ensures o.if2.false,
+      answered_yes o.before.piece-fits.ensures o.if2.false,
       le-leb _ _ f.if3.false,
       c.before.both-good.ensures,
     )
 
-pub take-reply-spec : {M : Type 1} → statement M
-unfolding takeReply
-take-reply-spec =
+pub take_reply_spec : {M : Type 1} → statement M
+unfolding take_reply
+take_reply_spec =
     tie.close
     (tie.spec
     (λ c κs. search rules)  -- gate-requires
@@ -53,7 +53,7 @@ take-reply-spec =
     rw (
       ← e.before.gate.ensures,
       e.if1.false,
-      answered-no c.before.piece-fits.ensures c.if2.true,
+      answered_no c.before.piece-fits.ensures c.if2.true,
     ))  -- returns-2
     (λ c. omega (arith, sizes c.before))  -- add-if3
     (λ c. omega (arith, sizes c.before))  -- mul-if3
@@ -63,7 +63,7 @@ take-reply-spec =
     rw (
       ← e.before.gate.ensures,
       e.if1.false,
-      answered-yes o.before.piece-fits.ensures o.if2.false,
+      answered_yes o.before.piece-fits.ensures o.if2.false,
       lt-leb _ _ c.if3.true,
     ))  -- returns-3
     both-good-requires

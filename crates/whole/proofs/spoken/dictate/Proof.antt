@@ -5,7 +5,7 @@ use native.Mathlib.Omega.{arith}
 use Rattle.rules.proofs.Loops.{turns}
 use Rattle.pieces.specs.Pieces.{completes}
 use Rattle.whole.specs.Private.{Ready}
-use Rattle.whole.proofs.Said.{So, begun, goes_on, come-to-end, ready_on}
+use Rattle.whole.proofs.Said.{So, begun, goes_on, come_to_end, ready_on}
 use Rattle.whole.proofs.spoken.dictate.Statement.{statement}
 use Rattle.whole.proofs.spoken.dictate.Tie as tie
 
@@ -64,12 +64,12 @@ returns c =
     let s = l.before.before.before.before.before.before in
     let a = s.args in
     let i = l.loop.invariant in
-    come-to-end a.rec a.share.now a.piece.now a.model.now _ a.out.now a.answers.now i.4
+    come_to_end a.rec a.share.now a.piece.now a.model.now _ a.out.now a.answers.now i.4
     s.requires.0.whole i.6.few i.7
     (omega (arith, i.0)) k.settle.ensures c.holding.ensures
 
-pub dictate-spec : {M : Type 1} → statement M
-dictate-spec =
+pub dictate_spec : {M : Type 1} → statement M
+dictate_spec =
     tie.close
     (tie.spec
     invariant-loop

@@ -6,8 +6,8 @@ use Rattle.rules.proofs.Common.{ℕ, ◌+◌, ◌-◌, ◌*◌, ◌++◌, ◌≡
 use lib.Seq.{take_all, drop-append-add}
 use Rattle.rules.specs.Place.{get}
 use Rattle.frame.specs.Share.{PART}
-use Rattle.pieces.specs.Pieces.{waitingIn}
-use Rattle.pieces.proofs.Shares.{waiting-length}
+use Rattle.pieces.specs.Pieces.{waiting_in}
+use Rattle.pieces.proofs.Shares.{waiting_length}
 use Rattle.whole.proofs.spoken.gather.Statement.{statement}
 use Rattle.whole.proofs.spoken.gather.Tie as tie
 
@@ -26,15 +26,15 @@ returns-2 c =
     let start = 480 * a.j - a.waiting in
     let sum : a.waiting + start ≡ 480 * a.j = omega (arith, t.if1.false, s.requires) in
     let all = take_all (length piece - start) (drop start piece) (simp length-drop (omega arith)) in
-    let ws = waitingIn a.waiting a.share.now in
-    let long = waiting-length a.share.now s.requires.0 a.waiting s.requires.1 in
+    let ws = waiting_in a.waiting a.share.now in
+    let long = waiting_length a.share.now s.requires.0 a.waiting s.requires.1 in
     let rest : drop (480 * a.j) (ws ++ piece) ≡ drop start piece =
     ap (λ (m : ℕ). drop m (ws ++ piece)) (sym (ap (λ (m : ℕ). m + start) long ∙ sum))
     ∙ drop-append-add ws piece start in
     c.before.before.join2.ensures ∙ rw (all, rest)
 
-pub gather-spec : {M : Type 1} → statement M
-gather-spec =
+pub gather_spec : {M : Type 1} → statement M
+gather_spec =
     tie.close
     (tie.spec
     (λ c. search rules)  -- add-end

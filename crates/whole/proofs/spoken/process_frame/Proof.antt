@@ -6,8 +6,8 @@ use Rattle.rules.proofs.Common.{refl, ap, ◌∙◌}
 use Rattle.rules.specs.Place.{get, put}
 use Rattle.rules.proofs.Refusals.{left}
 use Rattle.desk.specs.declared.Record.{Record}
-use Rattle.desk.specs.Private.{toldSecond}
-use Rattle.whole.proofs.Said.{spoke, spoke-length}
+use Rattle.desk.specs.Private.{told_second}
+use Rattle.whole.proofs.Said.{spoke, spoke_length}
 use Rattle.whole.proofs.spoken.process_frame.Statement.{statement}
 use Rattle.whole.proofs.spoken.process_frame.Tie as tie
 
@@ -19,7 +19,7 @@ same_length c =
     let s = f.before.before.before.before.before.before.before.before in
     let a = s.args in
     let k = s.requires.1 in
-    spoke-length a.rec a.share.now a.samples.now a.model.now s.requires.0 k.0
+    spoke_length a.rec a.share.now a.samples.now a.model.now s.requires.0 k.0
     k.1 _ f.first-half.ensures t.second-half.ensures
 
 returns : tie.Need-returns
@@ -36,10 +36,10 @@ returns c =
     f.first-half.ensures
     (left l.logs2.ensures (record { into = refl; from = omega (arith, f.first-half.auto) })) k.2
     t.second-half.ensures
-    (c.told-second.ensures ∙ ap (λ (b : Record). toldSecond b t.second-half.result) h.holding.ensures)
+    (c.told-second.ensures ∙ ap (λ (b : Record). told_second b t.second-half.result) h.holding.ensures)
 
-pub process-frame-spec : {M : Type 1} → statement M
-process-frame-spec =
+pub process_frame_spec : {M : Type 1} → statement M
+process_frame_spec =
     tie.close
     (tie.spec
     (λ c. search rules)  -- sub-first-half

@@ -5,7 +5,7 @@ use native.Mathlib.Omega.{arith}
 use Rattle.rules.specs.Place.{get, put}
 use Rattle.rules.proofs.Refusals.{left}
 use Rattle.frame.specs.Share.{PART}
-use Rattle.pieces.specs.Pieces.{waitingPlace}
+use Rattle.pieces.specs.Pieces.{waiting_place}
 use Rattle.whole.proofs.spoken.settle.Statement.{statement}
 use Rattle.whole.proofs.spoken.settle.Tie as tie
 
@@ -17,11 +17,11 @@ returns c =
     let s = g.before.before.before.before.before in
     let share = s.args.share.now in
     let room : length (take 479 (drop PART share)) ≡ 479 = simp (length-take, length-drop) (omega arith) in
-    ap (put (waitingPlace 479) share)
+    ap (put (waiting_place 479) share)
     (left k.copy.ensures (omega (arith, room, g.gather.auto)) ∙ g.gather.ensures)
 
-pub settle-spec : {M : Type 1} → statement M
-settle-spec =
+pub settle_spec : {M : Type 1} → statement M
+settle_spec =
     tie.close
     (tie.spec
     (λ c. search rules)  -- slice-aggregate-gather

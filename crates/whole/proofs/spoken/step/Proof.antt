@@ -4,9 +4,9 @@ use native.Mathlib.Nat.{add-sub_cancel_left}
 use native.Mathlib.Omega.{arith}
 use Rattle.rules.proofs.Common.{◌*◌, ◌++◌, ◌∙◌}
 use Rattle.rules.specs.Place.{get, put}
-use Rattle.rules.proofs.Places.{length-get}
-use Rattle.pieces.specs.Pieces.{waitingIn}
-use Rattle.whole.proofs.Said.{samples-length, gathered, gathered-length, gathered-good, stepped, lentFrom}
+use Rattle.rules.proofs.Places.{length_get}
+use Rattle.pieces.specs.Pieces.{waiting_in}
+use Rattle.whole.proofs.Said.{samples_length, gathered, gathered_length, gathered_good, stepped, lent_from}
 use Rattle.whole.proofs.spoken.step.Statement.{statement}
 use Rattle.whole.proofs.spoken.step.Tie as tie
 
@@ -17,12 +17,12 @@ process-frame-requires c κs =
     let s = g.before.before.before.before.before.before.before.before in
     let a = s.args in
     let r = s.requires.1 in
-    let long = samples-length a.j s.requires.0.whole r in (
+    let long = samples_length a.j s.requires.0.whole r in (
       s.requires.0,
       (
-        gathered-length _ a.j long g.gather.ensures,
-        gathered-good _ a.j long g.gather.ensures r.fine,
-        length-get (lentFrom a.j) a.out.now (omega (arith, r.room)) ∙ add-sub_cancel_left (480 * a.j) 480,
+        gathered_length _ a.j long g.gather.ensures,
+        gathered_good _ a.j long g.gather.ensures r.fine,
+        length_get (lent_from a.j) a.out.now (omega (arith, r.room)) ∙ add-sub_cancel_left (480 * a.j) 480,
       ),
     )
 
@@ -39,9 +39,9 @@ returns c =
     let s = g.before.before.before.before.before.before.before.before in
     let a = s.args in
     let r = s.requires.1 in
-    let long = samples-length a.j s.requires.0.whole r in
+    let long = samples_length a.j s.requires.0.whole r in
     stepped a.rec a.share.now a.model.now a.out.now a.j s.requires.0
-    (waitingIn a.waiting a.share.now ++ a.piece.now) a.answers.now
+    (waiting_in a.waiting a.share.now ++ a.piece.now) a.answers.now
     (gathered _ a.j long g.gather.ensures) k.process-frame.ensures t.tell.ensures
 
 pub step_spec : {M : Type 1} → statement M

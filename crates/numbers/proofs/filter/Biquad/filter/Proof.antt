@@ -4,16 +4,16 @@ use Rattle.std.proofs.Common.{arith, rules}
 use Rattle.rules.specs.Leaf.{◌leaving◌, done, refused}
 use Rattle.rules.proofs.Loops.{turns}
 use Rattle.numbers.specs.declared.filter.Memory.{Memory}
-use Rattle.numbers.specs.Filter.{memoryAfter, outputs, answer}
-use Rattle.numbers.specs.Private.{memoryIn}
-use Rattle.numbers.proofs.Outputs.{Filtering, filter-begin, filter_more, filter-ended}
+use Rattle.numbers.specs.Filter.{memory_after, outputs, answer}
+use Rattle.numbers.specs.Private.{memory_in}
+use Rattle.numbers.proofs.Outputs.{Filtering, filter_begin, filter_more, filter_ended}
 use Rattle.numbers.proofs.filter.Biquad.filter.Statement.{statement}
 use Rattle.numbers.proofs.filter.Biquad.filter.Tie as tie
 
 abbrev invariant-loop : tie.invariant-loop
 invariant-loop self output₀ input kept₀ i₀ i-end output kept i =
     (i ≤ i-end) × (i-end ≡ length input) × (length output ≡ length output₀)
-    × Filtering self (memoryIn kept₀) input output₀ i (memoryIn kept) output
+    × Filtering self (memory_in kept₀) input output₀ i (memory_in kept) output
 
 abbrev decreases-loop : tie.decreases-loop
 decreases-loop self output₀ input kept₀ i₀ i-end output kept i = i-end - i
@@ -32,16 +32,16 @@ returns-2 c =
     let start = w₀.before.before.before.before in
     let k = start.args.self in
     let xs = start.args.input.now in
-    let e = filter-ended _ _ _ _ _ l.invariant.3 (omega arith)
+    let e = filter_ended _ _ _ _ _ l.invariant.3 (omega arith)
     (omega arith) record { first = w₀.wide.ensures.1; second = w₁.wide2.ensures.1 } c.before.narrow.ensures
     c.narrow2.ensures in
-    let same : memoryIn record { m0 = w₀.wide.result; m1 = w₁.wide2.result } ≡ start.args.memory =
+    let same : memory_in record { m0 = w₀.wide.result; m1 = w₁.wide2.result } ≡ start.args.memory =
     λ i. record { m0 = w₀.wide.ensures.0 i; m1 = w₁.wide2.ensures.0 i } in
     done (omega arith) ((λ i. (answer 0 (e.0 i), e.1 i))
-    ∙ ap (λ (m : Memory). (answer 0 (memoryAfter k m xs) leaving outputs k m xs)) same)
+    ∙ ap (λ (m : Memory). (answer 0 (memory_after k m xs) leaving outputs k m xs)) same)
 
-pub filter-spec : {M : Type 1} → statement M
-filter-spec =
+pub filter_spec : {M : Type 1} → statement M
+filter_spec =
     tie.close
     (tie.spec
     invariant-loop
@@ -49,7 +49,7 @@ filter-spec =
     (λ c. refused (λ fits. omega arith) refl)  -- returns
     (λ c κs. search rules)  -- wide-requires
     (λ c κs. search rules)  -- wide-requires-2
-    (λ c. (omega arith, refl, refl, filter-begin _ _ _ _))  -- loop-holds
+    (λ c. (omega arith, refl, refl, filter_begin _ _ _ _))  -- loop-holds
     (λ c. search turns)  -- mul-turn
     (λ c. search turns)  -- shared-slice-read-turn
     (λ c κs. search rules)  -- turn-requires

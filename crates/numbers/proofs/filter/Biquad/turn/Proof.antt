@@ -1,12 +1,12 @@
 -- `Biquad::turn` meets its contract: `x as f64` is x, and the rest is the definition's. Assumes nothing.
 use Rattle.std.proofs.Common.{rules}
 use Rattle.rules.specs.Loop.{loop}
-use Rattle.numbers.specs.Filter.{filterStep, filtered}
+use Rattle.numbers.specs.Filter.{filter_step, filtered}
 use Rattle.numbers.proofs.filter.Biquad.turn.Statement.{statement}
 use Rattle.numbers.proofs.filter.Biquad.turn.Tie as tie
 
 returns : tie.Need-returns
-unfolding filtered filterStep loop
+unfolding filtered filter_step loop
 returns c = (cc, cc)
 
 pub turn_spec : {M : Type 1} → statement M
