@@ -1,6 +1,7 @@
 // A block of recorded bytes in one call: a bench's own channel of it is unpacked, taken, and packed again, with a
 // record of the side sheet for each frame, which carries the bench's own side. What may refuse it is tested before
 // anything changes.
+#![tactic(auto)]
 ghost use Rattle.std.specs.Prelude.{[], ◌∷◌, length};
 ghost use Rattle.desk.specs.Gate.{BENCHES, side_of};
 ghost use Rattle.frame.specs.Effect.{WorkedBoth};

@@ -1,1 +1,2 @@
 // Laws of floats, whatever the crate: proofs/. No code.
+#![tactic(auto)]

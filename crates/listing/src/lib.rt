@@ -1,4 +1,5 @@
 // Lists the layers of a model on standard output, or reports why the file is refused.
+#![tactic(auto)]
 use libc::{STDIN_FILENO, STDOUT_FILENO};
 
 // Prints a text.

@@ -2,6 +2,7 @@
 // slices. The borrow checker does not cover functions over a struct that holds a reference, so `matrix`,
 // `SubMatrix::mul_add` and `mul_add_at` are proved by hand. A caller of `mul_add_at`, such as a layer, needs no such
 // proof.
+#![tactic(auto)]
 ghost use Rattle.std.specs.Prelude.{◌≡◌};
 ghost use Rattle.matrix.specs.Sums.{MulAdd};
 

@@ -1,5 +1,6 @@
 // Lays out two models without weights and lists them: the usual hidden counts 24, 24, 48 and 96, and those of the
 // largest file that reads, 84, 1, 84 and 127. Both are longer than standard input may be.
+#![tactic(auto)]
 ghost use Rattle.std.specs.Prelude.{◌<◌};
 
 use model::{Cursor, Kind, Step};

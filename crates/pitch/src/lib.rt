@@ -1,5 +1,6 @@
 // The arithmetic of pitch.rs up to the downsampled signal. (The search over lags is in `pitch_search`.) A public
 // function refuses with 5, and changes nothing, exactly if its lengths do not fit; its core does the work.
+#![tactic(auto)]
 ghost use Rattle.std.specs.Prelude.{◌≡◌, ◌+◌, ◌<◌, ◌≤◌, length, take};
 ghost use Rattle.std.specs.Float.Ieee.{neg};
 ghost use Rattle.rules.specs.F32.{f32};

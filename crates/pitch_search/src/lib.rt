@@ -1,5 +1,6 @@
 // The search of pitch.rs: the inner product of two slices, and the best two of some lags. A public function refuses
 // with 5 exactly if its lengths do not fit; its core does the work.
+#![tactic(auto)]
 ghost use Rattle.std.specs.Prelude.{◌≡◌, ◌+◌, ◌<◌, ◌≤◌, length};
 ghost use Rattle.rules.specs.Leaf.{Leaf};
 ghost use Rattle.pitch_search.specs.Best.{start_norm, considered, slid, best, best_of, pitches_number, first_of};

@@ -1,6 +1,7 @@
 // A recording while it is being made. For each feed of a bench the recorder says which of its bytes belong to the
 // recording, and it carries on what the head, the seal and the trailer say at the end. A host holds it as eight
 // numbers.
+#![tactic(auto)]
 mod records;
 
 ghost use Rattle.std.specs.Prelude.{◌≡◌, ◌%◌, min, length};

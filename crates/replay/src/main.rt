@@ -1,6 +1,7 @@
 // Replays a fixed list of the Rust's answers through the functions of the static library, and reports how many agree.
 // The list comes on standard input; oracle/src/bin/vectors.rs makes it and describes its form. All NaNs count as equal,
 // and so do both zeros.
+#![tactic(auto)]
 ghost use Rattle.std.specs.Prelude.{◌≡◌, ◌+◌, ◌<◌, ◌≤◌, ◌^◌, length};
 
 use export::{of_bands, of_pitch};
