@@ -7,7 +7,7 @@ ghost use Rattle.numbers.specs.Filter.{memory_after, outputs, answer};
 ghost use Rattle.numbers.specs.Private.{memory_in};
 
 // The coefficients of y[n] = x[n] + b0 * x[n-1] + b1 * x[n-2] - a0 * y[n-1] - a1 * y[n-2].
-#[derive(Drop)]
+#[derive(Clone, Copy)]
 pub struct Biquad {
     pub a0: f32,
     pub a1: f32,
@@ -16,14 +16,14 @@ pub struct Biquad {
 }
 
 // What goes from one sample, and from one call, to the next; zeros before the first.
-#[derive(Drop)]
+#[derive(Clone, Copy)]
 pub struct Memory {
     pub m0: f32,
     pub m1: f32,
 }
 
 // What a call hands back: 0 and the memory to go on with, or 5 and the memory as it came.
-#[derive(Drop)]
+#[derive(Clone, Copy)]
 pub struct Filtered {
     pub number: u32,
     pub memory: Memory,
@@ -31,14 +31,14 @@ pub struct Filtered {
 
 // A memory within a call, each number an `f32` still: so a turn waits for no conversion of what the turn before it
 // kept.
-#[derive(Drop)]
+#[derive(Clone, Copy)]
 struct Kept {
     m0: f64,
     m1: f64,
 }
 
 // What a turn leaves.
-#[derive(Drop)]
+#[derive(Clone, Copy)]
 struct Turned {
     kept: Kept,
     y: f32,

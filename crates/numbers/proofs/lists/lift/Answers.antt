@@ -1,0 +1,14 @@
+-- `numbers::lists::lift` meets its contract. Assumes nothing.
+use Rattle.rules.proofs.Common.{◌-◌, ◌≤◌, ◌≡◌, length, nan}
+use Rattle.rules.specs.F32.{f32, ◌⊕◌, ◌⊗◌}
+use Rattle.rules.proofs.Lists.{Mapping, maps}
+use Rattle.numbers.proofs.lists.lift.Goals as goal
+
+pub loop-j-init : goal.loop-j-init
+loop-j-init c = search maps
+
+pub loop-j-preserved : goal.loop-j-preserved
+loop-j-preserved c = search maps
+
+pub returns : goal.returns
+returns c = search maps

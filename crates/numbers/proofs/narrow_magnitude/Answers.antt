@@ -1,0 +1,42 @@
+-- `numbers::narrow_magnitude` meets its contract: each arm is a case of `proofs/Conversion.antt`. Assumes nothing.
+use Rattle.std.proofs.Common.{ℕ, min, sym, subst, le_of_lt, rules}
+use native.Mathlib.Nat.{min-eq_left, min-eq_right}
+use Rattle.numbers.specs.Private.{Narrows}
+use Rattle.numbers.proofs.Conversion.{normal_narrows, subnormal_narrows, zero_narrows}
+use Rattle.numbers.proofs.narrow_magnitude.Goals as goal
+
+-- the smaller of what `rounded` gave and the pattern of the infinity
+at_most : (c : goal.After-rounded-r) → Narrows c.args.a (min c.rounded-r.result 0x7f80_0000)
+at_most c =
+    let a = c.args.a in
+    subst (λ (x : ℕ). Narrows a (min x 0x7f80_0000)) (sym c.rounded-r.ensures)
+    (normal_narrows a c.if-a-ge-NORMAL.true c.requires)
+
+pub overflow_sub-a : goal.overflow_sub-a
+overflow_sub-a c = search rules
+
+pub rounded-r-requires : goal.rounded-r-requires
+rounded-r-requires c = search rules
+
+pub returns-then-r-lt-INFINITY : goal.returns-then-r-lt-INFINITY
+returns-then-r-lt-INFINITY c = subst (Narrows c.args.a) (min-eq_left (le_of_lt c.if-r-lt-INFINITY.true)) (at_most c)
+
+pub returns-then-a-ge-NORMAL : goal.returns-then-a-ge-NORMAL
+returns-then-a-ge-NORMAL c = subst (Narrows c.args.a) (min-eq_right c.if-r-lt-INFINITY.false) (at_most c)
+
+pub overflow_add-a : goal.overflow_add-a
+overflow_add-a c = search rules
+
+pub overflow_sub-a-then-a-ge-HALF_SMALLEST : goal.overflow_sub-a-then-a-ge-HALF_SMALLEST
+overflow_sub-a-then-a-ge-HALF_SMALLEST c = search rules
+
+pub rounded-requires : goal.rounded-requires
+rounded-requires c = search rules
+
+pub returns-then-a-ge-HALF_SMALLEST : goal.returns-then-a-ge-HALF_SMALLEST
+returns-then-a-ge-HALF_SMALLEST c =
+    subst (Narrows c.args.a) (sym c.rounded.ensures)
+    (subnormal_narrows c.args.a c.if-a-ge-HALF_SMALLEST.true c.if-a-ge-NORMAL.false)
+
+pub returns : goal.returns
+returns c = zero_narrows c.args.a c.if-a-ge-HALF_SMALLEST.false

@@ -1,0 +1,10 @@
+-- `samples::all_good` meets its contract. Assumes nothing.
+use Rattle.rules.proofs.Common.{◌-◌, ◌≤◌, ◌&&◌, ◌≡◌, refl, length, drop}
+use native.Mathlib.Omega.{arith}
+use Rattle.rules.proofs.Loops.{turns}
+use Rattle.samples.specs.Samples.{good}
+use Rattle.samples.proofs.Passed.{one_more_lem, all_passed}
+use Rattle.samples.proofs.all_good.Given as goal
+
+abbrev pub invariant-loop-i : goal.invariant-loop-i
+invariant-loop-i l = (l.i ≤ l.i-end) × (l.i-end ≡ length l.samples) × (good l.samples ≡ l.so_far && good (drop l.i l.samples))
