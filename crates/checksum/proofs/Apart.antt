@@ -3,7 +3,7 @@
 --     same_end     of bytes that end alike, the checksums are equal only where those of what stands in front are
 --     burst-seen   of bytes that differ in at most four neighbours, they are never equal
 use Rattle.rules.proofs.Common.{ℕ, suc, ◌+◌, ◌-◌, ◌*◌, ◌/◌, ◌%◌, ◌^◌, ◌≤◌, ◌<◌, Bool, List, [], ◌∷◌, ◌++◌, ◌≡◌, refl}
-use Rattle.rules.proofs.Common.{sym, ap, ◌∙◌, eqb, ltb, T, length, get_or}
+use Rattle.rules.proofs.Common.{sym, ap, ◌∙◌, eqb, ltb, length, get_or}
 use mathlib.Core.List.{append_assoc}
 use native.Mathlib.Nat.{div-div-eq-div-mul}
 use lib.Pow.{pow-add}

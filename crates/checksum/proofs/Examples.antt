@@ -1,5 +1,5 @@
 -- Checksums by the definition, as computed lists. Assumes nothing.
-use Rattle.rules.proofs.Common.{ℕ, List, [], ◌∷◌, map, ◌≡◌, refl}
+use Rattle.rules.proofs.Common.{[], ◌∷◌, map, ◌≡◌, refl}
 use Rattle.rules.specs.Loop.{loop}
 use Rattle.rules.specs.Tab.{tab}
 use Rattle.checksum.specs.Checksum.{table, crc, crc32}

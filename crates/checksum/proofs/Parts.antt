@@ -1,6 +1,6 @@
 -- A checksum in parts. Assumes nothing.
-use Rattle.rules.proofs.Common.{ℕ, zero, suc, ◌+◌, ◌*◌, ◌/◌, ◌%◌, ◌≤◌, ◌<◌, List, [], ◌∷◌, ◌++◌, ◌≡◌, refl, sym, ap}
-use Rattle.rules.proofs.Common.{◌∙◌, length, get_or, drop}
+use Rattle.rules.proofs.Common.{ℕ, zero, suc, ◌+◌, ◌*◌, ◌/◌, ◌%◌, ◌≤◌, ◌<◌, List, [], ◌∷◌, ◌++◌, ◌≡◌, refl}
+use Rattle.rules.proofs.Common.{length, get_or, drop}
 use native.Mathlib.Numerals.{add-one}
 use native.Mathlib.Omega.{arith}
 use lib.Arith.{bin_ind}
@@ -38,7 +38,7 @@ xor_twice = bin_ind (λ (n : ℕ). (b : ℕ) → bit_xor (bit_xor n b) b ≡ n) 
 pub crc_append : (c : ℕ) (xs ys : List ℕ) → crc c (xs ++ ys) ≡ crc (crc c xs) ys
 unfolding crc
 crc_append c [] ys = refl
-crc_append c (x ∷ xs) ys = crc_append _ xs ys
+crc_append c (x ∷ xs) ys = crc_append (bit_xor (get_or table (bit_xor c x % 256) 0) (c / 256)) xs ys
 
 pub in_parts : InParts
 unfolding crc32

@@ -1,5 +1,6 @@
 // CRC-32 as zip and PNG define it. Bytes may be handed in one part after another.
 #![tactic(auto)]
+
 pub mod table;
 
 ghost use Rattle.std.specs.Prelude.{◌≡◌};
