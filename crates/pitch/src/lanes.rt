@@ -5,7 +5,7 @@ ghost use Rattle.std.specs.Prelude.{◌≡◌, ◌+◌, ◌≤◌, length};
 ghost use Rattle.pitch.specs.Private.{add_four, four_lags, sixteen_lags, store_four, store_sixteen};
 
 // A number for each of four lags in a row.
-#[derive(Drop)]
+#[derive(Clone, Copy)]
 pub(crate) struct Four {
     pub a: f32,
     pub b: f32,
@@ -14,7 +14,7 @@ pub(crate) struct Four {
 }
 
 // And for each of sixteen.
-#[derive(Drop)]
+#[derive(Clone, Copy)]
 pub(crate) struct Sixteen {
     pub a: Four,
     pub b: Four,

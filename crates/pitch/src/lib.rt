@@ -1,6 +1,7 @@
 // The arithmetic of pitch.rs up to the downsampled signal. (The search over lags is in `pitch_search`.) A public
 // function refuses with 5, and changes nothing, exactly if its lengths do not fit; its core does the work.
 #![tactic(auto)]
+
 ghost use Rattle.std.specs.Prelude.{◌≡◌, ◌+◌, ◌<◌, ◌≤◌, length, take};
 ghost use Rattle.std.specs.Float.Ieee.{neg};
 ghost use Rattle.rules.specs.F32.{f32};
@@ -161,8 +162,8 @@ fn xcorr_sixteens(xs: &[f32], ys: &[f32], xcorr: &mut [f32])
 
 // The lags after these that are computed four at a time.
 fn xcorr_fours_left(xs: &[f32], ys: &[f32], xcorr: &mut [f32])
-    requires xcorr_fits { XcorrFits (length xs.now) (length ys.now) (length xcorr.old) }
-    requires xcorr_value { take (whole_sixteens (length xcorr.old)) xcorr.old
+    requires lengths_fit { XcorrFits (length xs.now) (length ys.now) (length xcorr.old) }
+    requires sixteens_done { take (whole_sixteens (length xcorr.old)) xcorr.old
         ≡ tab (whole_sixteens (length xcorr.old)) (lag_of xs.now ys.now (length xcorr.old)) }
     ensures { take (whole_fours (length xcorr.old)) xcorr.new
         ≡ tab (whole_fours (length xcorr.old))
@@ -188,8 +189,8 @@ fn xcorr_fours(xs: &[f32], ys: &[f32], xcorr: &mut [f32])
 
 // The lags that are left.
 fn xcorr_rest(xs: &[f32], ys: &[f32], xcorr: &mut [f32])
-    requires xcorr_fits { XcorrFits (length xs.now) (length ys.now) (length xcorr.old) }
-    requires xcorr_value { take (whole_fours (length xcorr.old)) xcorr.old
+    requires lengths_fit { XcorrFits (length xs.now) (length ys.now) (length xcorr.old) }
+    requires fours_done { take (whole_fours (length xcorr.old)) xcorr.old
         ≡ tab (whole_fours (length xcorr.old)) (lag_of xs.now ys.now (length xcorr.old)) }
     ensures { xcorr.new
         ≡ pitch_xcorr xs.now ys.now (length xcorr.old) }
