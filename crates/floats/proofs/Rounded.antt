@@ -1,7 +1,8 @@
 -- What is rounded is an infinity or a finite value, of the sign that it was given (`rounded`). So it is no NaN
 -- (`round_no_nan`), and a number times a factor above zero is none (`mul_no_nan`). Nothing is rounded to a zero
 -- (`zero_rounds`). Assumes nothing.
-use Rattle.rules.proofs.Common.{ℕ, zero, suc, ◌+◌, ◌*◌, ◌^◌, ◌<◌, Bool, true, false, cond, ◌≡◌, refl, sym, ◌∙◌, ltb}
+use Rattle.std.specs.Prelude.{◌+◌, ◌*◌, ◌^◌, ◌<◌, ◌≡◌}
+use Rattle.rules.proofs.Common.{ℕ, zero, suc, Bool, true, false, cond, refl, sym, ◌∙◌, ltb}
 use Rattle.rules.proofs.Common.{Float, nan, inf, fin, up, down}
 use native.Mathlib.Nat.{zero-mul}
 use lib.Dec.{eqb-suc-zero}

@@ -1,5 +1,6 @@
 -- A test of two floats that antt computes, and that it means that they are equal (`floats`). Assumes nothing.
-use Rattle.rules.proofs.Common.{Bool, true, false, ◌&&◌, ◌≡◌, refl, ap, eqb, T, pos, Float, nan, inf, fin}
+use Rattle.std.specs.Prelude.{◌&&◌, ◌≡◌}
+use Rattle.rules.proofs.Common.{Bool, true, false, refl, ap, eqb, T, pos, Float, nan, inf, fin}
 use lib.Dec.{eqb→eq}
 use lib.IntN.{ℤ, negsuc}
 use lib.Ieee.Fits.{and_l, and_r}

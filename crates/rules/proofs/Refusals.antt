@@ -8,7 +8,8 @@
 --     by_rows, by-each, along         what holds of a table's answer, row by row; two tables of the same rows
 --     right, none-wrong, one-wrong    lengths that are what stands beside them
 -- Assumes nothing.
-use Rattle.rules.proofs.Common.{ℕ, Bool, true, false, not, ◌&&◌, List, [], ◌∷◌, ◌≡◌, refl, sym, ap, ◌∙◌, eqb}
+use Rattle.std.specs.Prelude.{◌&&◌, ◌∷◌, ◌≡◌}
+use Rattle.rules.proofs.Common.{ℕ, Bool, true, false, not, List, [], refl, sym, ap, ◌∙◌, eqb}
 use Rattle.rules.proofs.Common.{ltb, T}
 use native.Mathlib.Omega.{arith}
 use lib.Dec.{ltb→lt}

@@ -1,5 +1,6 @@
 -- Lists of whole numbers, such as the bytes of a file.
-use Rattle.rules.specs.Common.{ℕ, ◌+◌, ◌<◌, List, [], ◌∷◌, get_or}
+use Rattle.std.specs.Prelude.{◌+◌, ◌<◌, ◌∷◌}
+use Rattle.rules.specs.Common.{ℕ, List, [], get_or}
 
 -- Every number of the list is a byte.
 abbrev pub Bytes : List ℕ → Type 0

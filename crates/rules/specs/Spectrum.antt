@@ -1,5 +1,6 @@
 -- A spectrum is 961 numbers: bin 0, which is real, then the real and imaginary parts of bins 1 to 480.
-use Rattle.rules.specs.Common.{ℕ, ◌+◌, ◌-◌, ◌*◌, ◌/◌, cond, List, eqb, Float}
+use Rattle.std.specs.Prelude.{◌+◌, ◌-◌, ◌*◌, ◌/◌}
+use Rattle.rules.specs.Common.{ℕ, cond, List, eqb, Float}
 use Rattle.rules.specs.F32.{at, f32}
 
 abbrev pub re : List Float → ℕ → Float

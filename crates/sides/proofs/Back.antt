@@ -1,12 +1,12 @@
 -- A side's number and its letters mean that side alone. Assumes nothing.
-use Rattle.rules.proofs.Common.{ℕ, Bool, true, false, cond, ◌≡◌, refl, eqb}
+use Rattle.std.specs.Prelude.{◌≡◌}
+use Rattle.rules.proofs.Common.{ℕ, Bool, true, false, cond, refl, eqb}
 use native.Mathlib.Omega.{arith}
 use borrow.Author.Tests.{eqb-true}
-use Rattle.sides.specs.Sides.{LEFT, RGHT, number_of, letters_of, of_number, of_letters}
+use Rattle.sides.specs.Sides.{LEFT, RGHT}
 use Rattle.sides.specs.Laws.{NumberBack, NumberOnly, LettersBack, LettersOnly}
 use Rattle.sides.specs.declared.Side.{Side}
 use Rattle.sides.specs.declared.Side.TheVariants.{Left, Right}
-use Rattle.sides.specs.declared.Meant.{Meant}
 use Rattle.sides.specs.declared.Meant.TheVariants.{Means, Nothing}
 
 pub number_back : NumberBack

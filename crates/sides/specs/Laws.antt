@@ -1,5 +1,6 @@
 -- Claims about sides. Proofs: proofs/Back.antt.
-use Rattle.rules.specs.Common.{ℕ, ◌≡◌}
+use Rattle.std.specs.Prelude.{◌≡◌}
+use Rattle.rules.specs.Common.{ℕ}
 use Rattle.sides.specs.Sides.{number_of, letters_of, of_number, of_letters}
 use Rattle.sides.specs.declared.Side.{Side}
 use Rattle.sides.specs.declared.Meant.TheVariants.{Means}

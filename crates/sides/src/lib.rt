@@ -1,6 +1,7 @@
 // Left and right: a type of its own, so that no other number can be passed for a side. A bench, 0 to 15, is another
 // type.
 #![tactic(auto)]
+
 ghost use Rattle.std.specs.Prelude.{◌≡◌, ◌≤◌, ◌<◌, ◌^◌};
 ghost use Rattle.sides.specs.Sides.{number_of, letters_of, of_number, of_letters};
 

@@ -1,8 +1,7 @@
 -- `rules::clear` meets its contract. Assumes nothing.
-use Rattle.rules.proofs.Common.{◌-◌, ◌≤◌, ◌≡◌, refl, ◌∙◌, length}
+use Rattle.rules.proofs.Common.{refl, ◌∙◌}
 use native.Mathlib.Omega.{arith}
-use Rattle.rules.specs.F32.{f32}
-use Rattle.rules.proofs.Lists.{Filling, filling_ended, fills, tab_const}
+use Rattle.rules.proofs.Lists.{filling_ended, fills, tab_const}
 use Rattle.rules.proofs.clear.Goals as goal
 
 pub loop-i-init : goal.loop-i-init

@@ -1,8 +1,8 @@
 -- `rules::clear` meets its contract. Assumes nothing.
-use Rattle.rules.proofs.Common.{◌-◌, ◌≤◌, ◌≡◌, refl, ◌∙◌, length}
-use native.Mathlib.Omega.{arith}
+use Rattle.std.specs.Prelude.{◌≤◌, ◌≡◌}
+use Rattle.rules.proofs.Common.{length}
 use Rattle.rules.specs.F32.{f32}
-use Rattle.rules.proofs.Lists.{Filling, filling_ended, fills, tab_const}
+use Rattle.rules.proofs.Lists.{Filling}
 use Rattle.rules.proofs.clear.Given as goal
 
 abbrev pub invariant-loop-i : goal.invariant-loop-i

@@ -1,8 +1,9 @@
 -- `rules::copy` meets its contract. Assumes nothing.
-use Rattle.rules.proofs.Common.{◌-◌, ◌≤◌, ◌≡◌, refl, ◌∙◌, length, get_or, nan}
+use Rattle.std.specs.Prelude.{◌≡◌}
+use Rattle.rules.proofs.Common.{refl, ◌∙◌, length, nan}
 use native.Mathlib.Omega.{arith}
 use Rattle.rules.specs.Leaf.{done, refused}
-use Rattle.rules.proofs.Lists.{Filling, filling_ended, fills, tab_id}
+use Rattle.rules.proofs.Lists.{filling_ended, fills, tab_id}
 use Rattle.rules.proofs.Refusals.{leaves}
 use Rattle.rules.proofs.copy.Goals as goal
 

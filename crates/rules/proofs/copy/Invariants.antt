@@ -1,9 +1,7 @@
 -- `rules::copy` meets its contract. Assumes nothing.
-use Rattle.rules.proofs.Common.{◌-◌, ◌≤◌, ◌≡◌, refl, ◌∙◌, length, get_or, nan}
-use native.Mathlib.Omega.{arith}
-use Rattle.rules.specs.Leaf.{done, refused}
-use Rattle.rules.proofs.Lists.{Filling, filling_ended, fills, tab_id}
-use Rattle.rules.proofs.Refusals.{leaves}
+use Rattle.std.specs.Prelude.{◌≤◌, ◌≡◌}
+use Rattle.rules.proofs.Common.{length, get_or, nan}
+use Rattle.rules.proofs.Lists.{Filling}
 use Rattle.rules.proofs.copy.Given as goal
 
 abbrev pub invariant-loop-i : goal.invariant-loop-i
