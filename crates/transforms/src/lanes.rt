@@ -9,7 +9,7 @@ ghost use Rattle.transforms.specs.Transform.{wave};
 ghost use Rattle.transforms.specs.Private.{four_of, both, plus_term, places, extended, sums_of, kept, Keeps};
 
 // A number for each of four neighbours.
-#[derive(Drop)]
+#[derive(Clone, Copy)]
 pub(crate) struct Four {
     pub a: f32,
     pub b: f32,
@@ -18,7 +18,7 @@ pub(crate) struct Four {
 }
 
 // A place in the table for each of four neighbours.
-#[derive(Drop)]
+#[derive(Clone, Copy)]
 pub(crate) struct Places {
     pub a: usize,
     pub b: usize,
