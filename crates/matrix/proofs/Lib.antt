@@ -3,4 +3,3 @@ pub mod Columns
 pub mod Flipped
 pub mod Lengths
 pub mod Neurons
-pub mod Weights

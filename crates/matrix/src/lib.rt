@@ -1,8 +1,7 @@
 // The Rust's `SubMatrix`: borrowed weights, a stride and an offset. The work is done by `sums::mul_add` on plain
-// slices. The borrow checker does not cover functions over a struct that holds a reference, so `matrix`,
-// `SubMatrix::mul_add` and `mul_add_at` are proved by hand. A caller of `mul_add_at`, such as a layer, needs no such
-// proof.
+// slices.
 #![tactic(auto)]
+
 ghost use Rattle.std.specs.Prelude.{◌≡◌};
 ghost use Rattle.matrix.specs.Sums.{MulAdd};
 
