@@ -1,5 +1,6 @@
 -- From the microphone to the clerk. Assumes nothing.
-use Rattle.rules.proofs.Common.{ℕ, ◌+◌, ◌*◌, ◌/◌, ◌^◌, ◌≤◌, ◌<◌, List, [], ◌∷◌, ◌≡◌, refl, sym, ap, ap₂, ◌∙◌, length}
+use Rattle.std.specs.Prelude.{◌+◌, ◌*◌, ◌/◌, ◌^◌, ◌≤◌, ◌<◌, ◌∷◌, ◌≡◌}
+use Rattle.rules.proofs.Common.{ℕ, List, [], refl, sym, ap, ap₂, ◌∙◌, length}
 use Rattle.rules.proofs.Common.{get_or, take, drop, Float}
 use native.Mathlib.Omega.{arith}
 use Rattle.rules.specs.Place.{get}

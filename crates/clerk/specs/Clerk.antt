@@ -4,7 +4,8 @@
 -- handed
 -- to a recorder, in order, and what the recorder says is written in a row. This is a file: a clerk is told it as the
 -- bench's own side, and it holds the dictation of the bench's own channel, whatever other benches do.
-use Rattle.rules.specs.Common.{ℕ, ◌*◌, ◌^◌, ◌<◌, List, ◌++◌, ◌≡◌, take, drop}
+use Rattle.std.specs.Prelude.{◌*◌, ◌^◌, ◌<◌, ◌++◌, ◌≡◌}
+use Rattle.rules.specs.Common.{ℕ, List, take, drop}
 use Rattle.rules.specs.Place.{get}
 use Rattle.sides.specs.Sides.{number_of}
 use Rattle.desk.specs.Gate.{side_of, share_of}

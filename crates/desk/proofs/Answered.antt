@@ -6,7 +6,8 @@
 --     let-in                  where the gate gives 0, the call's effect on the share is the desk's
 --     was-let-in, on-share    a call that is done was let through, and is done on the share
 -- Assumes nothing.
-use Rattle.rules.proofs.Common.{ℕ, Bool, true, false, cond, ◌&&◌, false≢true, List, ◌≡◌, refl, sym, ◌∙◌, eqb, length}
+use Rattle.std.specs.Prelude.{◌&&◌, ◌≡◌}
+use Rattle.rules.proofs.Common.{ℕ, Bool, true, false, cond, false≢true, List, refl, sym, ◌∙◌, eqb, length}
 use Rattle.rules.proofs.Common.{Float}
 use borrow.Author.Tests.{eq-eqb, eqb-true}
 use Rattle.rules.specs.Place.{get}

@@ -5,7 +5,8 @@
 --     closed-alike    what the share of a closed side held is never told
 --     anew            an opening that is done forgets the record and the share that it found
 -- Assumes nothing.
-use Rattle.rules.proofs.Common.{ℕ, ◌*◌, ◌≤◌, ◌<◌, Bool, true, false, cond, false≢true, List, ◌≡◌, refl, sym, ap, ◌∙◌}
+use Rattle.std.specs.Prelude.{◌*◌, ◌≤◌, ◌<◌, ◌≡◌}
+use Rattle.rules.proofs.Common.{ℕ, Bool, true, false, cond, false≢true, List, refl, sym, ap, ◌∙◌}
 use Rattle.rules.proofs.Common.{eqb, ltb, length, Float}
 use native.Mathlib.Omega.{arith}
 use mathlib.Core.Logic.{◌⊎◌, inl, inr, ⊎_elim}

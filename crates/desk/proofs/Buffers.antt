@@ -1,5 +1,6 @@
 -- A call writes to each answer buffer that it is lent, or is refused and writes to none (`buffers`). Assumes nothing.
-use Rattle.rules.proofs.Common.{ℕ, ◌-◌, ◌*◌, Bool, true, false, cond, List, [], ◌++◌, ◌≡◌, refl, ltb, length, drop}
+use Rattle.std.specs.Prelude.{◌-◌, ◌*◌, ◌++◌, ◌≡◌}
+use Rattle.rules.proofs.Common.{ℕ, Bool, true, false, cond, List, [], refl, ltb, length, drop}
 use Rattle.rules.proofs.Common.{Float}
 use Rattle.rules.specs.Place.{get, put}
 use Rattle.frame.specs.Written.{Written, from, nothing, first_in}

@@ -1,6 +1,7 @@
 -- The law of request 08 over the desk: accepted, a half is its two calls in turn, the second handed the record and the
 -- store as the first left them. Assumes nothing.
-use Rattle.rules.proofs.Common.{ℕ, ◌+◌, ◌*◌, ◌≤◌, ◌<◌, true, false, false≢true, List, ◌≡◌, refl, sym, ap, ◌∙◌, eqb}
+use Rattle.std.specs.Prelude.{◌+◌, ◌*◌, ◌≤◌, ◌<◌, ◌≡◌}
+use Rattle.rules.proofs.Common.{ℕ, true, false, false≢true, List, refl, sym, ap, ◌∙◌, eqb}
 use Rattle.rules.proofs.Common.{length, Float}
 use native.Mathlib.Omega.{arith}
 use borrow.Author.Tests.{lt-ltb, eq-eqb, ne_eqb, eqb-true, eqb-false, not-false}

@@ -2,7 +2,8 @@
 --     admitted-kept    a share's length; and, refused, the share
 --     refused-keeps    refused, the record and the store
 -- Assumes nothing.
-use Rattle.rules.proofs.Common.{ℕ, false, true≢false, List, ◌≡◌, refl, sym, ap, ◌∙◌, length, Float}
+use Rattle.std.specs.Prelude.{◌≡◌}
+use Rattle.rules.proofs.Common.{ℕ, false, true≢false, List, refl, sym, ap, ◌∙◌, length, Float}
 use native.Mathlib.Omega.{arith}
 use Rattle.rules.specs.Place.{get, put}
 use Rattle.rules.proofs.Places.{put_get, length_get, length_put}

@@ -1,6 +1,7 @@
 -- A piece leaves of the record all but the call that is due, the samples that wait and the piece under way: one law
 -- over the field. Assumes nothing.
-use Rattle.rules.proofs.Common.{ℕ, Bool, true, false, cond, ◌≡◌, ltb}
+use Rattle.std.specs.Prelude.{◌≡◌}
+use Rattle.rules.proofs.Common.{ℕ, Bool, true, false, cond, ltb}
 use Rattle.desk.specs.declared.Record.{Record}
 use Rattle.desk.specs.Desk.{holding, carried}
 

@@ -1,5 +1,6 @@
 -- What an opening noted stays until the next (`noted_stays`). Assumes nothing.
-use Rattle.rules.proofs.Common.{Bool, true, false, cond, ◌≡◌, refl, length}
+use Rattle.std.specs.Prelude.{◌≡◌}
+use Rattle.rules.proofs.Common.{Bool, true, false, cond, refl, length}
 use Rattle.rules.specs.Place.{get}
 use Rattle.frame.specs.Reply.{passed}
 use Rattle.frame.specs.declared.Reply.{Reply}

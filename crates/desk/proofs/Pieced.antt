@@ -2,7 +2,8 @@
 --     piece-fitted, resume-fitted    they passed every test
 --     piece-told, resume-told        so that their numbers can be reckoned with
 --     resume-no-out                  a resume with no place for its samples is refused
-use Rattle.rules.proofs.Common.{ℕ, ◌≤◌, true, false, false≢true, List, ◌≡◌, refl, sym, ap, ◌∙◌, length, Float}
+use Rattle.std.specs.Prelude.{◌≤◌, ◌≡◌}
+use Rattle.rules.proofs.Common.{ℕ, true, false, false≢true, List, refl, sym, ap, ◌∙◌, length, Float}
 use native.Mathlib.Omega.{arith}
 use Rattle.frame.specs.Reply.{passed}
 use Rattle.frame.specs.declared.Hearing.{Hearing}

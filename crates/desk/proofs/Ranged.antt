@@ -5,7 +5,8 @@
 --     seated        where a call is done, its side is one of the benches
 --     opens         with a record in range an opening is done, where side, store and model are right
 -- Assumes nothing.
-use Rattle.rules.proofs.Common.{ℕ, ◌+◌, ◌-◌, ◌*◌, ◌≤◌, ◌<◌, Bool, true, false, cond, ◌&&◌, false≢true, List, ◌≡◌, refl}
+use Rattle.std.specs.Prelude.{◌+◌, ◌-◌, ◌*◌, ◌≤◌, ◌<◌, ◌&&◌, ◌≡◌}
+use Rattle.rules.proofs.Common.{ℕ, Bool, true, false, cond, false≢true, List, refl}
 use Rattle.rules.proofs.Common.{sym, eqb, leb, ltb, length}
 use Rattle.rules.proofs.Common.{Float}
 use native.Mathlib.Omega.{arith}

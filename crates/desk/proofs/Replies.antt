@@ -3,7 +3,8 @@
 --     no-out, no-half-out, no-resume-out    call 3 with no place for its spectrum, and a second half and a resume with
 --                                           none for their samples, are refused
 -- Assumes nothing.
-use Rattle.rules.proofs.Common.{ℕ, ◌-◌, ◌*◌, false, List, [], ◌++◌, ◌≡◌, refl, ap, ◌∙◌, length, drop, Float}
+use Rattle.std.specs.Prelude.{◌-◌, ◌*◌, ◌++◌, ◌≡◌}
+use Rattle.rules.proofs.Common.{ℕ, false, List, [], refl, ap, ◌∙◌, length, drop, Float}
 use Rattle.rules.specs.Place.{get, put}
 use Rattle.frame.specs.Written.{from, nothing, first_in}
 use Rattle.model.specs.Model.{read_of}

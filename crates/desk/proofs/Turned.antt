@@ -4,7 +4,8 @@
 --     gate-own      of a side and a store that are right, the side's own record decides alone
 --     closed-opens  a closed side lets nothing through but an opening
 -- Assumes nothing.
-use Rattle.rules.proofs.Common.{ℕ, ◌*◌, ◌<◌, Bool, true, false, true≢false, ◌≡◌, refl, eqb, ltb}
+use Rattle.std.specs.Prelude.{◌*◌, ◌<◌, ◌≡◌}
+use Rattle.rules.proofs.Common.{ℕ, Bool, true, false, true≢false, refl, eqb, ltb}
 use borrow.Author.Tests.{lt-ltb, eq-eqb, ltb-true, eqb-true, not-false}
 use Rattle.rules.proofs.Refusals.{cleared, Clear}
 use Rattle.frame.specs.Share.{SHARE}

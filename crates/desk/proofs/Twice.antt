@@ -1,5 +1,6 @@
 -- A record that a half moves on: twice. Assumes nothing.
-use Rattle.rules.proofs.Common.{ℕ, ◌+◌, ◌-◌, Bool, true, false, ◌≡◌, refl, ap, ◌∙◌}
+use Rattle.std.specs.Prelude.{◌+◌, ◌-◌, ◌≡◌}
+use Rattle.rules.proofs.Common.{ℕ, Bool, true, false, refl, ap, ◌∙◌}
 use Rattle.frame.specs.Reply.{passed}
 use Rattle.frame.specs.declared.Reply.{Reply}
 use Rattle.desk.specs.declared.Record.{Record}

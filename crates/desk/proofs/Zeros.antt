@@ -1,8 +1,9 @@
 -- Of the places for samples that wait, the unused ones are zero, in every state since an opening (`unused_zero`): an
 -- opening wipes them, a call of a frame leaves them alone, and what a piece leaves waiting has zeros behind it.
 -- Assumes nothing.
-use Rattle.rules.proofs.Common.{ℕ, ◌+◌, ◌-◌, ◌*◌, ◌≤◌, ◌<◌, Bool, true, false, cond, ◌&&◌, false≢true, List, [], ◌++◌}
-use Rattle.rules.proofs.Common.{◌≡◌, refl, sym, ap, ◌∙◌, eqb}
+use Rattle.std.specs.Prelude.{◌+◌, ◌-◌, ◌*◌, ◌≤◌, ◌<◌, ◌&&◌, ◌++◌, ◌≡◌}
+use Rattle.rules.proofs.Common.{ℕ, Bool, true, false, cond, false≢true, List, []}
+use Rattle.rules.proofs.Common.{refl, sym, ap, ◌∙◌, eqb}
 use Rattle.rules.proofs.Common.{leb, ltb, length, take, drop, replicate, length-drop, length-append, Float}
 use native.Mathlib.Omega.{arith}
 use mathlib.Core.Logic.{inl}

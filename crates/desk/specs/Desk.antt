@@ -1,6 +1,7 @@
 -- What a call of the desk gives. The desk's contracts cite this definition, and the law of isolation is about
 -- it.
-use Rattle.rules.specs.Common.{ℕ, ◌+◌, ◌-◌, cond, ◌&&◌, List, [], eqb, ltb, length, Float}
+use Rattle.std.specs.Prelude.{◌+◌, ◌-◌, ◌&&◌}
+use Rattle.rules.specs.Common.{ℕ, cond, List, [], eqb, ltb, length, Float}
 use Rattle.rules.specs.F32.{zeros}
 use Rattle.rules.specs.Place.{get, put}
 use Rattle.model.specs.Model.{read_of}

@@ -1,5 +1,6 @@
 -- Refusals 1 to 4: the tests that come before a call may look at a share. Stated for any number of benches.
-use Rattle.rules.specs.Common.{ℕ, ◌*◌, ◌%◌, Bool, true, cond, not, ◌&&◌, List, [], ◌∷◌, eqb, leb, ltb}
+use Rattle.std.specs.Prelude.{◌*◌, ◌%◌, ◌&&◌, ◌∷◌}
+use Rattle.rules.specs.Common.{ℕ, Bool, true, cond, not, List, [], eqb, leb, ltb}
 use Rattle.rules.specs.Refusals.{Row, ◌when◌, refusing}
 use Rattle.rules.specs.Place.{Place}
 use Rattle.frame.specs.Share.{SHARE}

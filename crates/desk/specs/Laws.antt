@@ -1,7 +1,7 @@
 -- Claims about the desk's calls, for any number of benches. Proofs: proofs/Kept, Ranged, Noted, Replies,
 -- Buffers, Halved, Apart, Zeros.
-use Rattle.rules.specs.Common.{ℕ, ◌+◌, ◌*◌, ◌≤◌, ◌<◌, true, false, cond, List, ◌≡◌, length, drop, Float}
-use Rattle.std.specs.Prelude.{◌⊎◌}
+use Rattle.rules.specs.Common.{ℕ, true, false, cond, List, length, drop, Float}
+use Rattle.std.specs.Prelude.{◌⊎◌, ◌+◌, ◌*◌, ◌≤◌, ◌<◌, ◌≡◌}
 use Rattle.rules.specs.Place.{get, put}
 use Rattle.frame.specs.Written.{Written, first_in}
 use Rattle.transforms.specs.Transform.{forward_of}

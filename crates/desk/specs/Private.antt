@@ -1,5 +1,6 @@
 -- For the contracts of private functions.
-use Rattle.rules.specs.Common.{ℕ, ◌+◌, ◌-◌, ◌≤◌, cond, ◌≡◌}
+use Rattle.std.specs.Prelude.{◌+◌, ◌-◌, ◌≤◌, ◌≡◌}
+use Rattle.rules.specs.Common.{ℕ, cond}
 use Rattle.model.specs.declared.Reading.{Reading}
 use Rattle.model.specs.declared.Reading.TheVariants.{Good, Refused as Unread}
 use Rattle.frame.specs.Share.{SHARE, PART}

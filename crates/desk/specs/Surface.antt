@@ -1,5 +1,6 @@
 -- The desk for a host that has only numbers: what the functions of the C surface return and leave.
-use Rattle.rules.specs.Common.{ℕ, ◌+◌, ◌*◌, cond, ◌&&◌, List, [], ◌∷◌, ◌++◌, eqb, leb, length, get_or, replicate, Float}
+use Rattle.std.specs.Prelude.{◌+◌, ◌*◌, ◌&&◌, ◌∷◌, ◌++◌}
+use Rattle.rules.specs.Common.{ℕ, cond, List, [], eqb, leb, length, get_or, replicate, Float}
 use Rattle.rules.specs.F32.{f32}
 use Rattle.frame.specs.Written.{Written, all}
 use Rattle.frame.specs.Effect.{Effect}

@@ -16,12 +16,12 @@ use frame::{Hearing, Lag, Reply, Way};
 use model::Reading;
 
 // A side, which is a bench: 0 to 15, the even ones left and the odd ones right.
-#[derive(Drop)]
+#[derive(Clone, Copy)]
 pub struct Bench(pub usize);
 
 // A side's record, which goes in and comes back by value; closed, it is all zeros, and its way is what is asked. It is
 // called `rec`: `record` is a word of the logic.
-#[derive(Drop)]
+#[derive(Clone, Copy)]
 pub struct Record {
     pub due: usize,
     pub hearing: Hearing,
@@ -33,7 +33,7 @@ pub struct Record {
 }
 
 // What a call gives back: its reply, and the record as it now stands.
-#[derive(Drop)]
+#[derive(Clone, Copy)]
 pub struct Answer {
     pub reply: Reply,
     pub rec: Record,
@@ -270,7 +270,7 @@ pub fn gate(side: Bench, rec: Record, len: usize, call: usize) -> u32
 }
 
 // The gate's number, and where the side's share lies in the store, a frame's part in front.
-#[derive(Drop)]
+#[derive(Clone, Copy)]
 struct Admission {
     number: u32,
     start: usize,

@@ -1,7 +1,8 @@
 -- The law of cutting. A piece that is resumed to its end is the dictation of its samples, by induction over its frames;
 -- a row of pieces is the dictation of all samples, by the law that a dictation can be broken off and gone on with.
 -- Assumes nothing.
-use Rattle.rules.proofs.Common.{ℕ, ◌+◌, ◌-◌, ◌*◌, ◌/◌, ◌≤◌, ◌<◌, Bool, true, false, cond, List, [], ◌∷◌, ◌++◌, ◌≡◌}
+use Rattle.std.specs.Prelude.{◌+◌, ◌-◌, ◌*◌, ◌/◌, ◌≤◌, ◌<◌, ◌∷◌, ◌++◌, ◌≡◌}
+use Rattle.rules.proofs.Common.{ℕ, Bool, true, false, cond, List, []}
 use Rattle.rules.proofs.Common.{refl, sym, ap, ap₂, subst, ◌∙◌, ltb}
 use Rattle.rules.proofs.Common.{length, take, drop, length-drop, length-append, Float}
 use native.Mathlib.Omega.{arith}

@@ -1,6 +1,7 @@
 -- Laws of a dictation: that it is blind to what waited in the share before, and that it can be broken off and gone on
 -- with. Assumes nothing.
-use Rattle.rules.proofs.Common.{ℕ, ◌+◌, ◌*◌, ◌≤◌, ◌<◌, List, [], ◌∷◌, ◌++◌, ◌≡◌, refl, length, take, drop, length-drop}
+use Rattle.std.specs.Prelude.{◌+◌, ◌*◌, ◌≤◌, ◌<◌, ◌∷◌, ◌++◌, ◌≡◌}
+use Rattle.rules.proofs.Common.{ℕ, List, [], refl, length, take, drop, length-drop}
 use Rattle.rules.proofs.Common.{Float}
 use native.Mathlib.Omega.{arith}
 use mathlib.Core.List.{append_assoc}

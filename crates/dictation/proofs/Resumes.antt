@@ -1,6 +1,7 @@
 -- Laws of a record and of one piece: its numbers, where it is accepted, and that an accepted piece comes to its end.
 -- Assumes nothing.
-use Rattle.rules.proofs.Common.{ℕ, ◌+◌, ◌-◌, ◌*◌, ◌/◌, ◌≤◌, ◌<◌, Bool, true, false, List, [], ◌∷◌, ◌++◌, ◌≡◌, refl, sym}
+use Rattle.std.specs.Prelude.{◌+◌, ◌-◌, ◌*◌, ◌/◌, ◌≤◌, ◌<◌, ◌∷◌, ◌++◌, ◌≡◌}
+use Rattle.rules.proofs.Common.{ℕ, Bool, true, false, List, [], refl, sym}
 use Rattle.rules.proofs.Common.{ap, ◌∙◌, eqb, leb, length}
 use Rattle.rules.proofs.Common.{drop, length-drop, length-append, Float}
 use native.Mathlib.Omega.{arith}

@@ -5,8 +5,9 @@
 --     resume-passed      a resume, with what is left of its samples
 --     ends, pauses       onward, the rest is too short for a frame, or begins one; first-onward, what is written first
 -- Assumes nothing.
-use Rattle.rules.proofs.Common.{ℕ, ◌+◌, ◌-◌, ◌*◌, ◌≤◌, ◌<◌, Bool, true, false, cond, false≢true, List, [], ◌∷◌, ◌++◌}
-use Rattle.rules.proofs.Common.{◌≡◌, refl, sym, ap, ◌∙◌, ltb, length, get_or, take, drop, length-drop}
+use Rattle.std.specs.Prelude.{◌+◌, ◌-◌, ◌*◌, ◌≤◌, ◌<◌, ◌∷◌, ◌++◌, ◌≡◌}
+use Rattle.rules.proofs.Common.{ℕ, Bool, true, false, cond, false≢true, List, []}
+use Rattle.rules.proofs.Common.{refl, sym, ap, ◌∙◌, ltb, length, get_or, take, drop, length-drop}
 use Rattle.rules.proofs.Common.{length-append, Float}
 use borrow.Author.Tests.{lt-ltb, le-ltb}
 use Rattle.rules.specs.Place.{get, put}

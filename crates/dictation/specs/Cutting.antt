@@ -1,5 +1,6 @@
 -- The law of cutting (request 12), for any side of any desk. Proofs: proofs/Cuts.antt.
-use Rattle.rules.specs.Common.{ℕ, ◌*◌, true, List, [], ◌∷◌, ◌++◌, ◌≡◌, length, get_or, take, Float}
+use Rattle.std.specs.Prelude.{◌*◌, ◌∷◌, ◌++◌, ◌≡◌}
+use Rattle.rules.specs.Common.{ℕ, true, List, [], length, get_or, take, Float}
 use Rattle.frame.specs.Written.{nothing, numbers_in, over}
 use Rattle.frame.specs.Effect.{Effect}
 use Rattle.frame.specs.Reply.{passed}

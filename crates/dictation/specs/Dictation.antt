@@ -1,6 +1,7 @@
 -- Dictation by frames (request 12): 480 samples at a time, each frame with what is lent to it; the rest
 -- waits. There are no pieces here.
-use Rattle.rules.specs.Common.{ℕ, List, [], ◌∷◌, ◌++◌, length, take, drop, Float}
+use Rattle.std.specs.Prelude.{◌∷◌, ◌++◌}
+use Rattle.rules.specs.Common.{ℕ, List, [], length, take, drop, Float}
 use Rattle.rules.specs.Place.{get, put}
 use Rattle.frame.specs.Written.{first_in}
 use Rattle.frame.specs.Effect.{Effect}

@@ -1,5 +1,6 @@
 -- Claims about a record and about one piece. Proofs: proofs/Cuts.antt, proofs/Resumes.antt.
-use Rattle.rules.specs.Common.{ℕ, ◌+◌, ◌*◌, ◌≤◌, ◌<◌, true, List, [], ◌∷◌, ◌≡◌, length, Float}
+use Rattle.std.specs.Prelude.{◌+◌, ◌*◌, ◌≤◌, ◌<◌, ◌∷◌, ◌≡◌}
+use Rattle.rules.specs.Common.{ℕ, true, List, [], length, Float}
 use Rattle.rules.specs.Place.{get}
 use Rattle.frame.specs.Written.{from, over}
 use Rattle.samples.specs.Samples.{good}

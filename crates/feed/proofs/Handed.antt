@@ -3,8 +3,9 @@
 --     sized, part_length, ready   the numbers of a feed that no row refuses
 --     turned, shut, fed           a feed that the gate turns away, one that a row refuses, and one that is neither
 -- Assumes nothing.
-use Rattle.rules.proofs.Common.{ℕ, ◌-◌, ◌*◌, ◌/◌, ◌≤◌, ◌<◌, Bool, true, false, cond, not, ◌&&◌, true≢false, false≢true}
-use Rattle.rules.proofs.Common.{List, [], ◌∷◌, ◌≡◌, refl, sym}
+use Rattle.std.specs.Prelude.{◌-◌, ◌*◌, ◌/◌, ◌≤◌, ◌<◌, ◌&&◌, ◌∷◌, ◌≡◌}
+use Rattle.rules.proofs.Common.{ℕ, Bool, true, false, cond, not, true≢false, false≢true}
+use Rattle.rules.proofs.Common.{List, [], refl, sym}
 use Rattle.rules.proofs.Common.{ap, ap₂, ◌∙◌, leb, length, get_or, drop, length-take, Float, nan}
 use native.Mathlib.Nat.{sub-zero}
 use native.Mathlib.Omega.{arith}

@@ -1,5 +1,6 @@
 -- The samples of a block are those of the bench's own channel (`own_samples`). Assumes nothing.
-use Rattle.rules.proofs.Common.{ℕ, ◌*◌, ◌/◌, ◌%◌, ◌<◌, List, map, ◌≡◌, refl, sym, ap, ◌∙◌, length}
+use Rattle.std.specs.Prelude.{◌*◌, ◌/◌, ◌%◌, ◌<◌, ◌≡◌}
+use Rattle.rules.proofs.Common.{ℕ, List, map, refl, sym, ap, ◌∙◌, length}
 use native.Mathlib.Nat.{mul-pos, mul-mod_left, mul-div_cancel}
 use native.Mathlib.Omega.{arith}
 use Rattle.pcm.specs.Pcm.{width, unpacked}

@@ -3,7 +3,8 @@
 --                               range
 --     feed-leaves, entry-small  refused, it changes nothing; what specs/Laws.antt claims
 -- Assumes nothing.
-use Rattle.rules.proofs.Common.{ℕ, ◌+◌, ◌%◌, ◌<◌, Bool, true, false, cond, true≢false, false≢true, List, ◌≡◌, refl}
+use Rattle.std.specs.Prelude.{◌+◌, ◌%◌, ◌<◌, ◌≡◌}
+use Rattle.rules.proofs.Common.{ℕ, Bool, true, false, cond, true≢false, false≢true, List, refl}
 use Rattle.rules.proofs.Common.{length, Float}
 use native.Mathlib.Omega.{arith}
 use lib.Ieee.{eq}

@@ -1,7 +1,8 @@
 -- A block of recorded bytes in one call: a bench's own channel of it is unpacked, taken, and packed again, with a
 -- record of the side sheet for each frame, which carries the bench's own side. By definition these one after the other;
 -- what may refuse them is tested before anything changes, the lowest number first.
-use Rattle.rules.specs.Common.{ℕ, ◌+◌, ◌*◌, ◌/◌, ◌%◌, Bool, cond, not, ◌&&◌, List, [], ◌∷◌, eqb, leb, ltb, length}
+use Rattle.std.specs.Prelude.{◌+◌, ◌*◌, ◌/◌, ◌%◌, ◌&&◌, ◌∷◌}
+use Rattle.rules.specs.Common.{ℕ, Bool, cond, not, List, [], eqb, leb, ltb, length}
 use Rattle.rules.specs.Common.{Float}
 use Rattle.std.specs.Float.Ieee.{eq}
 use Rattle.rules.specs.F32.{f32, at}

@@ -1,5 +1,6 @@
 -- What is claimed of a feed by itself. The proofs are in proofs/Ranged.antt and proofs/Own.antt.
-use Rattle.rules.specs.Common.{ℕ, ◌≤◌, ◌<◌, List, [], map, ◌≡◌, length, get_or, Float}
+use Rattle.std.specs.Prelude.{◌≤◌, ◌<◌, ◌≡◌}
+use Rattle.rules.specs.Common.{ℕ, List, [], map, length, get_or, Float}
 use Rattle.pcm.specs.Pcm.{width}
 use Rattle.pcm.specs.Laws.{interleaved, Recorded, sample_of}
 use Rattle.feed.specs.Feed.{Block, samples_of, frame_entry}

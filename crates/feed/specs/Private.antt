@@ -1,5 +1,6 @@
 -- For the parts of the code.
-use Rattle.rules.specs.Common.{ℕ, ◌+◌, ◌*◌, ◌≤◌, Bool, ◌&&◌, leb}
+use Rattle.std.specs.Prelude.{◌+◌, ◌*◌, ◌≤◌, ◌&&◌}
+use Rattle.rules.specs.Common.{ℕ, Bool, leb}
 use Rattle.pieces.specs.Pieces.{completes, piece_fits}
 use Rattle.feed.specs.Feed.{ROOM}
 

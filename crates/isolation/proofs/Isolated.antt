@@ -6,7 +6,8 @@
 --     isolated, undisturbed     the two laws, of a kind of calls that is owned
 --     owned-is-apart            what specs/Isolation.antt claims
 -- Assumes nothing.
-use Rattle.rules.proofs.Common.{ℕ, ◌+◌, ◌*◌, ◌<◌, Bool, true, false, cond, List, [], ◌∷◌, map, ◌≡◌, refl, sym, ap, ap₂}
+use Rattle.std.specs.Prelude.{◌+◌, ◌*◌, ◌<◌, ◌∷◌, ◌≡◌}
+use Rattle.rules.proofs.Common.{ℕ, Bool, true, false, cond, List, [], map, refl, sym, ap, ap₂}
 use Rattle.rules.proofs.Common.{◌∙◌, eqb, ltb, length, Float}
 use native.Mathlib.Omega.{arith}
 use mathlib.Core.Logic.{◌⊎◌, inl, inr, ⊎_elim}

@@ -1,5 +1,6 @@
 -- What a bench remembers, over any run: what specs/Memory.antt claims. Assumes nothing.
-use Rattle.rules.proofs.Common.{ℕ, ◌<◌, Bool, true, false, cond, false≢true, List, [], ◌∷◌, ◌≡◌, refl, sym, ap, ◌∙◌}
+use Rattle.std.specs.Prelude.{◌<◌, ◌∷◌, ◌≡◌}
+use Rattle.rules.proofs.Common.{ℕ, Bool, true, false, cond, false≢true, List, [], refl, sym, ap, ◌∙◌}
 use Rattle.rules.proofs.Common.{eqb, length, Float, nan}
 use native.Mathlib.Omega.{arith}
 use mathlib.Core.Logic.{⊎_elim}

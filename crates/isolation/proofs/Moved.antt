@@ -3,7 +3,8 @@
 --     run      so does a run
 --     fresh    an opening that is done leaves nothing of it
 -- Assumes nothing.
-use Rattle.rules.proofs.Common.{ℕ, ◌*◌, ◌<◌, Bool, true, false, cond, List, [], ◌∷◌, ◌≡◌, refl, sym, ap, ap₂, ◌∙◌, eqb}
+use Rattle.std.specs.Prelude.{◌*◌, ◌<◌, ◌∷◌, ◌≡◌}
+use Rattle.rules.proofs.Common.{ℕ, Bool, true, false, cond, List, [], refl, sym, ap, ap₂, ◌∙◌, eqb}
 use Rattle.rules.proofs.Common.{length, Float}
 use native.Mathlib.Omega.{arith}
 use borrow.Author.Tests.{eq-eqb, eqb-true, eqb-false}

@@ -1,7 +1,8 @@
 -- Numbered frames: what specs/Numbering.antt claims.
 --     kept_frame, kept-heard     calls move the numbers on by the frames that they end, and hear
 -- Assumes nothing.
-use Rattle.rules.proofs.Common.{ℕ, ◌+◌, ◌%◌, Bool, true, false, cond, List, [], ◌∷◌, ◌≡◌, refl, ap, ◌∙◌, ltb, length}
+use Rattle.std.specs.Prelude.{◌+◌, ◌%◌, ◌∷◌, ◌≡◌}
+use Rattle.rules.proofs.Common.{ℕ, Bool, true, false, cond, List, [], refl, ap, ◌∙◌, ltb, length}
 use native.Mathlib.Nat.{zero-add}
 use native.Mathlib.Omega.{arith}
 use borrow.Author.Tests.{ltb-true, ltb-false}

@@ -7,7 +7,8 @@
 --     sized      the share keeps its length
 --     unseen     what the share of a closed bench held is never told
 -- Assumes nothing.
-use Rattle.rules.proofs.Common.{ℕ, ◌*◌, ◌≤◌, ◌<◌, Bool, true, false, cond, List, ◌≡◌, refl, sym, ap, ◌∙◌, eqb, length}
+use Rattle.std.specs.Prelude.{◌*◌, ◌≤◌, ◌<◌, ◌≡◌}
+use Rattle.rules.proofs.Common.{ℕ, Bool, true, false, cond, List, refl, sym, ap, ◌∙◌, eqb, length}
 use Rattle.rules.proofs.Common.{Float}
 use native.Mathlib.Omega.{arith}
 use mathlib.Core.Logic.{inr}

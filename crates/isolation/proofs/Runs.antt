@@ -4,7 +4,8 @@
 --     record-after     a side's record behind a call of the desk; store-after, the store
 --     expanding        where each call is made of the desk's calls, any run is
 -- Assumes nothing.
-use Rattle.rules.proofs.Common.{ℕ, Bool, true, false, cond, List, [], ◌∷◌, ◌++◌, map, ◌≡◌, refl, sym, ap, ◌∙◌, eqb, leb}
+use Rattle.std.specs.Prelude.{◌∷◌, ◌++◌, ◌≡◌}
+use Rattle.rules.proofs.Common.{ℕ, Bool, true, false, cond, List, [], map, refl, sym, ap, ◌∙◌, eqb, leb}
 use borrow.Author.Tests.{eq-eqb, eqb-true}
 use Rattle.frame.specs.Reply.{passed}
 use Rattle.frame.specs.declared.Way.{Way}

@@ -4,7 +4,8 @@
 -- any benches in any order, refused calls among them. Nothing else touches the records and the store. The law holds for
 -- every kind of calls in which a call is the gate, followed by a function of the bench's side, its own record and its
 -- own share (`Owned`).
-use Rattle.rules.specs.Common.{ℕ, ◌+◌, ◌*◌, ◌<◌, cond, List, [], ◌∷◌, ◌++◌, map, ◌≡◌, eqb, length, take, get_or, Float}
+use Rattle.std.specs.Prelude.{◌+◌, ◌*◌, ◌<◌, ◌∷◌, ◌++◌, ◌≡◌}
+use Rattle.rules.specs.Common.{ℕ, cond, List, [], map, eqb, length, take, get_or, Float}
 use Rattle.rules.specs.F32.{zeros}
 use Rattle.frame.specs.Share.{SHARE}
 use Rattle.desk.specs.Gate.{side_of}

@@ -1,6 +1,7 @@
 -- A call as its bench sees it: the gate, and then a function of the bench's side, its own record and its own share. It
 -- can read and write nothing else.
-use Rattle.rules.specs.Common.{ℕ, cond, List, ◌≡◌, eqb, length, Float}
+use Rattle.std.specs.Prelude.{◌≡◌}
+use Rattle.rules.specs.Common.{ℕ, cond, List, eqb, length, Float}
 use Rattle.rules.specs.Place.{get}
 use Rattle.frame.specs.Effect.{Effect, refusal}
 use Rattle.frame.specs.Share.{SHARE}

@@ -5,7 +5,8 @@
 -- band correlations, lags and models, and of nothing else (request 13). A silent frame, a refused call and another
 -- bench's call leave it unchanged. No remembered gain is ever NaN, and after k heard frames each is at least its
 -- earlier value multiplied k times by 0.6, rounded each time.
-use Rattle.rules.specs.Common.{ℕ, ◌*◌, ◌<◌, true, false, List, [], ◌∷◌, ◌≡◌, length, Float, le, is_nan}
+use Rattle.std.specs.Prelude.{◌*◌, ◌<◌, ◌∷◌, ◌≡◌}
+use Rattle.rules.specs.Common.{ℕ, true, false, List, [], length, Float, le, is_nan}
 use Rattle.rules.specs.F32.{◌⊗◌, at, f32}
 use Rattle.rules.specs.Place.{get}
 use Rattle.frame.specs.declared.Reply.TheVariants.{Heard}

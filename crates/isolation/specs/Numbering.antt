@@ -1,7 +1,8 @@
 -- Numbered frames (request 07): what is claimed. The proofs are in proofs/Numberings.antt.
 -- After an opening, whatever calls follow on whatever benches, the record of a bench counts its finished frames and its
 -- heard frames, both modulo 2^32, until it is opened again.
-use Rattle.rules.specs.Common.{ℕ, ◌+◌, ◌*◌, ◌%◌, ◌<◌, true, false, cond, List, [], ◌∷◌, ◌++◌, ◌≡◌, eqb, length}
+use Rattle.std.specs.Prelude.{◌+◌, ◌*◌, ◌%◌, ◌<◌, ◌∷◌, ◌++◌, ◌≡◌}
+use Rattle.rules.specs.Common.{ℕ, true, false, cond, List, [], eqb, length}
 use Rattle.rules.specs.Place.{get}
 use Rattle.frame.specs.Reply.{passed}
 use Rattle.frame.specs.Share.{SHARE}

@@ -1,6 +1,7 @@
 -- Runs of calls of any kind on n benches of one store, and what one bench receives in a run. The desk's own calls are
 -- one kind; other kinds are made of them.
-use Rattle.rules.specs.Common.{ℕ, cond, ◌&&◌, List, [], ◌∷◌, ◌++◌, map, ◌≡◌, eqb, Float}
+use Rattle.std.specs.Prelude.{◌&&◌, ◌∷◌, ◌++◌, ◌≡◌}
+use Rattle.rules.specs.Common.{ℕ, cond, List, [], map, eqb, Float}
 use Rattle.frame.specs.Effect.{Effect}
 use Rattle.frame.specs.Written.{Written}
 use Rattle.desk.specs.declared.Answer.{Answer}

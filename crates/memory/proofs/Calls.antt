@@ -6,7 +6,8 @@
 --     opens        an opening that is done does the one
 --     remembers    every other call, and an opening that is refused, the other
 -- Assumes nothing.
-use Rattle.rules.proofs.Common.{ℕ, ◌+◌, ◌-◌, ◌*◌, ◌≤◌, Bool, true, false, cond, false≢true, List, [], ◌∷◌, ◌++◌, ◌≡◌}
+use Rattle.std.specs.Prelude.{◌+◌, ◌-◌, ◌*◌, ◌≤◌, ◌∷◌, ◌++◌, ◌≡◌}
+use Rattle.rules.proofs.Common.{ℕ, Bool, true, false, cond, false≢true, List, []}
 use Rattle.rules.proofs.Common.{refl, sym, ap, ap₂, subst, ◌∙◌}
 use Rattle.rules.proofs.Common.{eqb, ltb, length, take, drop, replicate, length-take, pos, Float, binary32, of_int}
 use native.Mathlib.Nat.{zero-add}

@@ -1,5 +1,6 @@
 -- The remembered gains over heard frames: what specs/Laws.antt claims. Assumes nothing.
-use Rattle.rules.proofs.Common.{ℕ, zero, suc, true, [], ◌∷◌, ◌≡◌, length, Float, le}
+use Rattle.std.specs.Prelude.{◌∷◌, ◌≡◌}
+use Rattle.rules.proofs.Common.{ℕ, zero, suc, true, [], length, Float, le}
 use Rattle.rules.specs.F32.{at}
 use Rattle.features.specs.Gains.{six_tenths}
 use Rattle.features.proofs.Remembered.{never_nan, at_least_held}

@@ -1,6 +1,7 @@
 -- A heard frame on a share: what is remembered then is what `hear` makes of what was remembered before.
 -- Assumes nothing.
-use Rattle.rules.proofs.Common.{ℕ, ◌+◌, ◌≤◌, List, ◌≡◌, refl, ap, ◌∙◌, length, Float}
+use Rattle.std.specs.Prelude.{◌+◌, ◌≤◌, ◌≡◌}
+use Rattle.rules.proofs.Common.{ℕ, List, refl, ap, ◌∙◌, length, Float}
 use native.Mathlib.Omega.{arith}
 use mathlib.Core.Logic.{inl, inr}
 use Rattle.rules.specs.F32.{at, zeros}

@@ -3,7 +3,8 @@
 --     kept-recalled   of what is remembered: what `hear` makes of the frames that they bring
 --     same_count      how many frames they bring does not depend on what was noted before
 -- Assumes nothing.
-use Rattle.rules.proofs.Common.{ℕ, suc, true, false, cond, List, [], ◌∷◌, ◌++◌, ◌≡◌, refl, ap, length, Float}
+use Rattle.std.specs.Prelude.{◌∷◌, ◌++◌, ◌≡◌}
+use Rattle.rules.proofs.Common.{ℕ, suc, true, false, cond, List, [], refl, ap, length, Float}
 use Rattle.rules.specs.F32.{at}
 use Rattle.rules.specs.Place.{get}
 use Rattle.frame.specs.Reply.{one_more}

@@ -1,6 +1,7 @@
 -- What the calls of a frame bring to the memory of their bench: call 2 brings the first spectrum and the lag, and a
 -- heard call 3 the second spectrum, the logarithms and the model. Nothing else does.
-use Rattle.rules.specs.Common.{ℕ, cond, List, [], ◌∷◌, pos, Float, binary32, of_int}
+use Rattle.std.specs.Prelude.{◌∷◌}
+use Rattle.rules.specs.Common.{ℕ, cond, List, [], pos, Float, binary32, of_int}
 use Rattle.rules.specs.F32.{f32, zeros}
 use Rattle.rules.specs.Place.{get}
 use Rattle.features.specs.Features.{normalised_corr}

@@ -1,6 +1,7 @@
 -- The four calls of a frame, and which of them a call of the desk is made of: a half is made of two, a piece and a
 -- resume are made of halves.
-use Rattle.rules.specs.Common.{ℕ, Bool, cond, List, [], ◌∷◌, ◌++◌, ltb, length, take, drop, Float}
+use Rattle.std.specs.Prelude.{◌∷◌, ◌++◌}
+use Rattle.rules.specs.Common.{ℕ, Bool, cond, List, [], ltb, length, take, drop, Float}
 use Rattle.rules.specs.Place.{get}
 use Rattle.frame.specs.Written.{first_in}
 use Rattle.lag.specs.Lag.{own_lag}

@@ -1,6 +1,7 @@
 -- What a bench remembers of the voice, and what a heard frame makes of it (request 13). This is
 -- `compute_frame_features` of features.rs and `process_frame` of denoise.rs, as far as they remember.
-use Rattle.rules.specs.Common.{ℕ, zero, suc, ◌+◌, cond, List, [], ◌∷◌, ltb, Float}
+use Rattle.std.specs.Prelude.{◌+◌, ◌∷◌}
+use Rattle.rules.specs.Common.{ℕ, zero, suc, cond, List, [], ltb, Float}
 use Rattle.rules.specs.F32.{zeros}
 use Rattle.network.specs.Compute.{computed}
 use Rattle.features.specs.Features.{features_of, with_cepstrum}

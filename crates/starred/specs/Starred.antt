@@ -1,6 +1,7 @@
 -- The examples that document 01 marks with a star, in one list, computed from the definitions alone. What a NaN gives
 -- is decided by request 09.
-use Rattle.rules.specs.Common.{ℕ, List, [], ◌∷◌, ◌++◌, map, ◌≡◌, take, replicate, binary32, nan}
+use Rattle.std.specs.Prelude.{◌∷◌, ◌++◌, ◌≡◌}
+use Rattle.rules.specs.Common.{ℕ, List, [], map, take, replicate, binary32, nan}
 use Rattle.rules.specs.F32.{f32, one}
 use Rattle.numbers.specs.Activations.{tansig_approx, sigmoid_approx}
 use Rattle.numbers.specs.Larger.{rectified}

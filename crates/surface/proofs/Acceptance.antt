@@ -3,8 +3,9 @@
 --     desk-asks     a call of the desk
 --     frame-asks, take-asks    a frame and a take
 -- Assumes nothing.
-use Rattle.rules.proofs.Common.{ℕ, ◌*◌, ◌≤◌, Bool, true, false, cond, not, ◌&&◌, ◌||◌, true≢false, false≢true, List, []}
-use Rattle.rules.proofs.Common.{◌∷◌, ◌++◌, ◌≡◌, refl, sym, ap, ◌∙◌}
+use Rattle.std.specs.Prelude.{◌*◌, ◌≤◌, ◌&&◌, ◌||◌, ◌∷◌, ◌++◌, ◌≡◌}
+use Rattle.rules.proofs.Common.{ℕ, Bool, true, false, cond, not, true≢false, false≢true, List, []}
+use Rattle.rules.proofs.Common.{refl, sym, ap, ◌∙◌}
 use Rattle.rules.proofs.Common.{eqb, leb, ltb, length, Float}
 use native.Mathlib.Omega.{arith}
 use borrow.Author.Tests.{eq-eqb, eqb-true, eqb-false, le-ltb, ltb-true, leb-true}

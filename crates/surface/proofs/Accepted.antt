@@ -1,5 +1,6 @@
 -- A feed, and any call: what specs/Acceptance.antt claims. Assumes nothing.
-use Rattle.rules.proofs.Common.{ℕ, ◌*◌, Bool, true, false, not, ◌&&◌, List, [], ◌∷◌, ◌++◌, ◌≡◌, refl, sym, ap, ◌∙◌, eqb}
+use Rattle.std.specs.Prelude.{◌*◌, ◌&&◌, ◌∷◌, ◌++◌, ◌≡◌}
+use Rattle.rules.proofs.Common.{ℕ, Bool, true, false, not, List, [], refl, sym, ap, ◌∙◌, eqb}
 use Rattle.rules.proofs.Common.{leb, length, Float}
 use Rattle.rules.specs.Place.{get}
 use Rattle.rules.specs.Refusals.{◌when◌, refusing}

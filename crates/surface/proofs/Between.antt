@@ -4,8 +4,9 @@
 --     rows         a row of pieces
 --     between      what specs/Between.antt claims
 -- Assumes nothing.
-use Rattle.rules.proofs.Common.{ℕ, ◌+◌, ◌-◌, ◌*◌, ◌/◌, ◌≤◌, ◌<◌, Bool, true, false, cond, ◌&&◌, List, [], ◌∷◌, ◌++◌}
-use Rattle.rules.proofs.Common.{map, ◌≡◌, refl, sym, ap, ap₂}
+use Rattle.std.specs.Prelude.{◌+◌, ◌-◌, ◌*◌, ◌/◌, ◌≤◌, ◌<◌, ◌&&◌, ◌∷◌, ◌++◌, ◌≡◌}
+use Rattle.rules.proofs.Common.{ℕ, Bool, true, false, cond, List, []}
+use Rattle.rules.proofs.Common.{map, refl, sym, ap, ap₂}
 use Rattle.rules.proofs.Common.{◌∙◌, eqb, leb, length, get_or, drop, length-drop, Float}
 use native.Mathlib.Omega.{arith}
 use mathlib.Core.List.{append_assoc}

@@ -1,5 +1,6 @@
 -- What a bench receives is made of its own channel's bytes (`bytes_to_bytes`). Assumes nothing.
-use Rattle.rules.proofs.Common.{ℕ, ◌*◌, cond, List, [], ◌∷◌, map, ◌≡◌, refl, sym, ap, ap₂, ◌∙◌, eqb, length, Float}
+use Rattle.std.specs.Prelude.{◌*◌, ◌∷◌, ◌≡◌}
+use Rattle.rules.proofs.Common.{ℕ, cond, List, [], map, refl, sym, ap, ap₂, ◌∙◌, eqb, length, Float}
 use borrow.Author.Tests.{eq-eqb}
 use Rattle.rules.specs.F32.{zeros}
 use Rattle.rules.specs.Refusals.{refusing}

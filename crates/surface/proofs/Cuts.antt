@@ -1,6 +1,7 @@
 -- Blocks in a row are one dictation (`rows`, `bytes_in_a_row`), however a stream is cut into them (`however_cut`).
 -- Assumes nothing.
-use Rattle.rules.proofs.Common.{ℕ, ◌+◌, ◌/◌, ◌≤◌, ◌<◌, List, ◌++◌, ◌≡◌, refl, sym, ap, ap₂, ◌∙◌, length, replicate}
+use Rattle.std.specs.Prelude.{◌+◌, ◌/◌, ◌≤◌, ◌<◌, ◌++◌, ◌≡◌}
+use Rattle.rules.proofs.Common.{ℕ, List, refl, sym, ap, ap₂, ◌∙◌, length, replicate}
 use Rattle.rules.proofs.Common.{length-append, Float}
 use native.Mathlib.Omega.{arith}
 use mathlib.Core.List.{append_assoc, append-nil}

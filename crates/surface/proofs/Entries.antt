@@ -1,6 +1,7 @@
 -- What a frame's record tells (`records_tell`), and sides by the definition, computed. Assumes nothing.
-use Rattle.rules.proofs.Common.{ℕ, zero, suc, ◌+◌, ◌*◌, ◌%◌, ◌/◌, ◌<◌, Bool, true, false, cond, List, [], ◌∷◌, ◌++◌}
-use Rattle.rules.proofs.Common.{map, ◌≡◌, refl, sym, ap, subst, ◌∙◌, length, get_or}
+use Rattle.std.specs.Prelude.{◌+◌, ◌*◌, ◌%◌, ◌/◌, ◌<◌, ◌∷◌, ◌++◌, ◌≡◌}
+use Rattle.rules.proofs.Common.{ℕ, zero, suc, Bool, true, false, cond, List, []}
+use Rattle.rules.proofs.Common.{map, refl, sym, ap, subst, ◌∙◌, length, get_or}
 use Rattle.rules.proofs.Common.{drop, Float, nan}
 use native.Mathlib.Omega.{arith}
 use lib.Ieee.{eq, of_bits}

@@ -3,7 +3,8 @@
 --     frame-runs, take_runs, one-call     each of the calls; row-runs, the resumes of a take
 --     expands, our-calls        any run of them, and what is claimed over it
 -- Assumes nothing.
-use Rattle.rules.proofs.Common.{ℕ, zero, suc, Bool, true, false, cond, List, [], ◌∷◌, map, ◌≡◌, refl, sym, ap, ◌∙◌, eqb}
+use Rattle.std.specs.Prelude.{◌∷◌, ◌≡◌}
+use Rattle.rules.proofs.Common.{ℕ, zero, suc, Bool, true, false, cond, List, [], map, refl, sym, ap, ◌∙◌, eqb}
 use Rattle.rules.proofs.Common.{length, replicate, Float}
 use mathlib.Core.Path.{fun_ext}
 use borrow.Author.Tests.{eqb-true, eq-eqb}

@@ -2,7 +2,8 @@
 --     gave-nothing, gave-said     a refused call, and a feed that is done
 --     Comes, lone-run             a bench's calls that are done, one after the other, and that any run comes to these
 -- Assumes nothing.
-use Rattle.rules.proofs.Common.{ℕ, ◌*◌, ◌≤◌, ◌<◌, Bool, true, false, cond, false≢true, List, [], ◌∷◌, ◌++◌, ◌≡◌, refl}
+use Rattle.std.specs.Prelude.{◌*◌, ◌≤◌, ◌<◌, ◌∷◌, ◌++◌, ◌≡◌}
+use Rattle.rules.proofs.Common.{ℕ, Bool, true, false, cond, false≢true, List, [], refl}
 use Rattle.rules.proofs.Common.{sym, ap, ap₂, subst, ◌∙◌}
 use Rattle.rules.proofs.Common.{eqb, length, get_or, Float}
 use native.Mathlib.Omega.{arith}

@@ -1,5 +1,6 @@
 -- What a call returns is a number of the table, and 0 exactly where it is done. Assumes nothing.
-use Rattle.rules.proofs.Common.{ℕ, ◌-◌, ◌*◌, ◌≤◌, Bool, true, false, cond, not, true≢false, List, [], ◌∷◌, ◌++◌, ◌≡◌}
+use Rattle.std.specs.Prelude.{◌-◌, ◌*◌, ◌≤◌, ◌∷◌, ◌++◌, ◌≡◌}
+use Rattle.rules.proofs.Common.{ℕ, Bool, true, false, cond, not, true≢false, List, []}
 use Rattle.rules.proofs.Common.{refl, sym, subst, eqb, leb, ltb}
 use Rattle.rules.proofs.Common.{length, drop, Float}
 use native.Mathlib.Omega.{arith}

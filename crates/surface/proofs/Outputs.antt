@@ -4,8 +4,9 @@
 --     told_is, received_is         one call, where what it is made of are pieces and resumes, and any run
 --     own-asks                     any run in which a side makes no whole calls
 -- Assumes nothing.
-use Rattle.rules.proofs.Common.{ℕ, zero, suc, ◌-◌, Bool, true, false, cond, ◌&&◌, false≢true, List, [], ◌∷◌, ◌++◌, map}
-use Rattle.rules.proofs.Common.{◌≡◌, refl, sym, ap}
+use Rattle.std.specs.Prelude.{◌-◌, ◌&&◌, ◌∷◌, ◌++◌, ◌≡◌}
+use Rattle.rules.proofs.Common.{ℕ, zero, suc, Bool, true, false, cond, false≢true, List, [], map}
+use Rattle.rules.proofs.Common.{refl, sym, ap}
 use Rattle.rules.proofs.Common.{ap₂, subst, ◌∙◌, eqb, ltb, length, get_or, drop, replicate, Float}
 use native.Mathlib.Omega.{arith}
 use mathlib.Core.List.{append_assoc, append-nil}

@@ -1,5 +1,6 @@
 -- A refusal changes nothing, whichever call it is. Assumes nothing.
-use Rattle.rules.proofs.Common.{ℕ, Bool, false, cond, List, [], ◌++◌, ◌≡◌, refl, ap, ◌∙◌}
+use Rattle.std.specs.Prelude.{◌++◌, ◌≡◌}
+use Rattle.rules.proofs.Common.{ℕ, Bool, false, cond, List, [], refl, ap, ◌∙◌}
 use Rattle.frame.specs.Written.{Written}
 use Rattle.frame.proofs.Buffers.{to_none}
 use Rattle.frame.specs.Effect.{Effect}

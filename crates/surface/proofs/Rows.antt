@@ -4,8 +4,9 @@
 --     frame-after, waiting-after    the frame number behind a dictation, and how many samples wait
 --     told-each                     something is told of each frame
 -- Assumes nothing.
-use Rattle.rules.proofs.Common.{ℕ, zero, suc, ◌+◌, ◌-◌, ◌*◌, ◌/◌, ◌%◌, ◌≤◌, ◌<◌, Bool, true, false, cond, List, [], ◌∷◌}
-use Rattle.rules.proofs.Common.{◌++◌, ◌≡◌, refl, sym, ap}
+use Rattle.std.specs.Prelude.{◌+◌, ◌-◌, ◌*◌, ◌/◌, ◌%◌, ◌≤◌, ◌<◌, ◌∷◌, ◌++◌, ◌≡◌}
+use Rattle.rules.proofs.Common.{ℕ, zero, suc, Bool, true, false, cond, List, []}
+use Rattle.rules.proofs.Common.{refl, sym, ap}
 use Rattle.rules.proofs.Common.{ap₂, ◌∙◌, ltb, length, drop, length-drop, length-append, Float, nan}
 use native.Mathlib.Nat.{add-zero, add-suc, add_assoc, add-mul, mul_assoc, mul-pos, mul-mod_left, mul-div_cancel}
 use native.Mathlib.Omega.{arith}

@@ -5,7 +5,8 @@
 --     owned                                any of them
 --     our-surface, starts-anew             what specs/Surface.antt claims
 -- Assumes nothing.
-use Rattle.rules.proofs.Common.{ℕ, Bool, true, false, cond, not, List, [], ◌∷◌, ◌++◌, ◌≡◌, refl, sym, ap, ◌∙◌, eqb}
+use Rattle.std.specs.Prelude.{◌∷◌, ◌++◌, ◌≡◌}
+use Rattle.rules.proofs.Common.{ℕ, Bool, true, false, cond, not, List, [], refl, sym, ap, ◌∙◌, eqb}
 use Rattle.rules.proofs.Common.{length, Float}
 use native.Mathlib.Omega.{arith}
 use mathlib.Core.Logic.{inl, inr}

@@ -5,8 +5,9 @@
 --     dictate-ready, whole_ready     a frame, a take and a feed that are done leave call 1 due, and what the opening
 -- noted
 -- Assumes nothing.
-use Rattle.rules.proofs.Common.{ℕ, zero, suc, ◌+◌, ◌-◌, ◌*◌, ◌≤◌, ◌<◌, Bool, true, false, cond, not, ◌&&◌, false≢true}
-use Rattle.rules.proofs.Common.{List, [], ◌∷◌, ◌++◌, ◌≡◌, refl, sym}
+use Rattle.std.specs.Prelude.{◌+◌, ◌-◌, ◌*◌, ◌≤◌, ◌<◌, ◌&&◌, ◌∷◌, ◌++◌, ◌≡◌}
+use Rattle.rules.proofs.Common.{ℕ, zero, suc, Bool, true, false, cond, not, false≢true}
+use Rattle.rules.proofs.Common.{List, [], refl, sym}
 use Rattle.rules.proofs.Common.{ap, ap₂, subst, ◌∙◌, eqb, leb, ltb, length, take as list-take, drop, length-append}
 use Rattle.rules.proofs.Common.{length-drop, Float}
 use native.Mathlib.Omega.{arith}

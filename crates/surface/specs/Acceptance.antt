@@ -3,7 +3,8 @@
 -- A call is accepted exactly when the desk is in order and the call's record, share and arguments are as it asks.
 -- Nothing else can turn it away: not another bench, not how long it dictates, not what the share holds (but for the
 -- samples that wait).
-use Rattle.rules.specs.Common.{ℕ, ◌*◌, Bool, true, false, not, ◌&&◌, List, ◌++◌, ◌≡◌, eqb, leb, ltb, length, Float}
+use Rattle.std.specs.Prelude.{◌*◌, ◌&&◌, ◌++◌, ◌≡◌}
+use Rattle.rules.specs.Common.{ℕ, Bool, true, false, not, List, eqb, leb, ltb, length, Float}
 use Rattle.rules.specs.Place.{get}
 use Rattle.samples.specs.Samples.{good}
 use Rattle.model.specs.Model.{read_of}

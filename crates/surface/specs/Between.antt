@@ -1,7 +1,8 @@
 -- Cutting, with others in between: however a bench's samples are cut, into takes or pieces, whatever other benches do
 -- in between, and however often a call of its own is refused, it is one dictation of its samples. What is claimed; the
 -- proof is in proofs/Between.antt.
-use Rattle.rules.specs.Common.{ℕ, ◌*◌, ◌<◌, cond, List, [], ◌∷◌, ◌++◌, map, ◌≡◌, eqb, length, get_or, Float}
+use Rattle.std.specs.Prelude.{◌*◌, ◌<◌, ◌∷◌, ◌++◌, ◌≡◌}
+use Rattle.rules.specs.Common.{ℕ, cond, List, [], map, eqb, length, get_or, Float}
 use Rattle.rules.specs.Place.{get}
 use Rattle.frame.specs.Written.{nothing, numbers_in}
 use Rattle.frame.specs.Share.{SHARE}

@@ -4,7 +4,8 @@
 -- bytes. What a bench receives, its cleaned bytes, records and answers among it, is what its own calls alone would give
 -- it; and of a block it is made of the bench's own channel. So no byte of another channel, and nothing that another
 -- bench does, is ever heard in it.
-use Rattle.rules.specs.Common.{ℕ, ◌*◌, ◌<◌, List, [], ◌∷◌, ◌≡◌, length, Float}
+use Rattle.std.specs.Prelude.{◌*◌, ◌<◌, ◌∷◌, ◌≡◌}
+use Rattle.rules.specs.Common.{ℕ, List, [], length, Float}
 use Rattle.frame.specs.Share.{SHARE}
 use Rattle.desk.specs.Gate.{BENCHES}
 use Rattle.isolation.specs.Run.{On, received}

@@ -5,7 +5,8 @@
 -- records of its frames and its answers in a row, and its own record and share at the end, are those of one dictation
 -- of its channel, whatever other benches do in between, and however often a call of its own is refused. And each
 -- frame's record carries the frame's number, whether it was heard, and the bench's own side.
-use Rattle.rules.specs.Common.{ℕ, ◌+◌, ◌*◌, ◌%◌, ◌<◌, Bool, false, cond, List, [], ◌∷◌, ◌++◌, map, ◌≡◌, length, get_or}
+use Rattle.std.specs.Prelude.{◌+◌, ◌*◌, ◌%◌, ◌<◌, ◌∷◌, ◌++◌, ◌≡◌}
+use Rattle.rules.specs.Common.{ℕ, Bool, false, cond, List, [], map, length, get_or}
 use Rattle.rules.specs.Common.{drop, Float}
 use Rattle.rules.specs.Place.{get}
 use Rattle.frame.specs.Written.{nothing, first_in, wholes_in}

@@ -3,7 +3,8 @@
 -- A bench is opened, and then calls come on any benches in any order. If its record is handed in for another bench, the
 -- call is refused with 2, whatever is asked and whatever the store holds: the record and the store stay as they are,
 -- and nothing is written.
-use Rattle.rules.specs.Common.{ℕ, ◌<◌, true, List, ◌∷◌, ◌≡◌, Float}
+use Rattle.std.specs.Prelude.{◌<◌, ◌∷◌, ◌≡◌}
+use Rattle.rules.specs.Common.{ℕ, true, List, Float}
 use Rattle.frame.specs.declared.Way.{Way}
 use Rattle.frame.specs.Effect.{refusal}
 use Rattle.frame.specs.Reply.{passed}

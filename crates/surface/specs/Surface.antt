@@ -1,6 +1,7 @@
 -- Every call of the C surface that touches the store, by what its contract cites, and what is claimed of all of them.
 -- The proofs are in proofs/.
-use Rattle.rules.specs.Common.{ℕ, ◌*◌, ◌≤◌, ◌<◌, true, false, cond, List, [], ◌∷◌, map, ◌≡◌, eqb, length, Float}
+use Rattle.std.specs.Prelude.{◌*◌, ◌≤◌, ◌<◌, ◌∷◌, ◌≡◌}
+use Rattle.rules.specs.Common.{ℕ, true, false, cond, List, [], map, eqb, length, Float}
 use Rattle.rules.specs.Refusals.{refusing}
 use Rattle.frame.specs.Written.{first_in}
 use Rattle.logs.specs.Log10.{logs_of}

@@ -4,7 +4,8 @@
 -- and however long the bench has dictated, a call that hands it good samples is accepted, as long as call 1 is due: no
 -- frame and no piece is under way. For a bench that makes frames, takes and feeds alone, call 1 is always due, and the
 -- model that it was opened with suits it.
-use Rattle.rules.specs.Common.{ℕ, ◌*◌, ◌≤◌, true, List, ◌∷◌, ◌≡◌, length, Float}
+use Rattle.std.specs.Prelude.{◌*◌, ◌≤◌, ◌∷◌, ◌≡◌}
+use Rattle.rules.specs.Common.{ℕ, true, List, length, Float}
 use Rattle.samples.specs.Samples.{good}
 use Rattle.frame.specs.declared.Way.{Way}
 use Rattle.frame.specs.Reply.{passed}

@@ -3,8 +3,9 @@
 --     Take, take-accepted, take-known  a take; fits-sizes, its numbers
 --     good-bad, good-rest, good-both   samples behind others: whether all are good; logs-length, of our logarithms
 -- Assumes nothing.
-use Rattle.rules.proofs.Common.{ℕ, ◌*◌, ◌≤◌, Bool, true, false, not, ◌&&◌, true≢false, false≢true, List, [], ◌∷◌, ◌++◌}
-use Rattle.rules.proofs.Common.{◌≡◌, refl, sym, ap, ◌∙◌, eqb, leb}
+use Rattle.std.specs.Prelude.{◌*◌, ◌≤◌, ◌&&◌, ◌∷◌, ◌++◌, ◌≡◌}
+use Rattle.rules.proofs.Common.{ℕ, Bool, true, false, not, true≢false, false≢true, List, []}
+use Rattle.rules.proofs.Common.{refl, sym, ap, ◌∙◌, eqb, leb}
 use Rattle.rules.proofs.Common.{length, Float}
 use borrow.Author.Tests.{eqb-true, leb-true}
 use Rattle.rules.specs.Place.{get}

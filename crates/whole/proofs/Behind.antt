@@ -4,7 +4,8 @@
 --     refused, done-there      a call that is refused, and one that is not
 --     frame-ready, take-ready  what the code asks of a frame and of a dictation
 -- Assumes nothing.
-use Rattle.rules.proofs.Common.{ℕ, ◌+◌, ◌-◌, ◌*◌, Bool, true, false, cond, List, ◌≡◌, refl, ap, length, Float}
+use Rattle.std.specs.Prelude.{◌+◌, ◌-◌, ◌*◌, ◌≡◌}
+use Rattle.rules.proofs.Common.{ℕ, Bool, true, false, cond, List, refl, ap, length, Float}
 use native.Mathlib.Nat.{add-sub_cancel_left}
 use native.Mathlib.Omega.{arith}
 use borrow.Author.Tests.{not-false}

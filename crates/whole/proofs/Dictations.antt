@@ -3,7 +3,8 @@
 --     take-fills                    how much it hands out
 --     answers-length, answers-both  the answers of frames in a row
 -- Assumes nothing.
-use Rattle.rules.proofs.Common.{ℕ, zero, suc, ◌*◌, Bool, true, false, cond, false≢true, List, [], ◌∷◌, ◌++◌, ◌≡◌, refl}
+use Rattle.std.specs.Prelude.{◌*◌, ◌∷◌, ◌++◌, ◌≡◌}
+use Rattle.rules.proofs.Common.{ℕ, zero, suc, Bool, true, false, cond, false≢true, List, [], refl}
 use Rattle.rules.proofs.Common.{sym, ap, ◌∙◌, length, replicate}
 use Rattle.rules.proofs.Common.{length-append, Float}
 use native.Mathlib.Omega.{arith}

@@ -1,6 +1,7 @@
 -- A frame that is accepted is its two halves (`two_halves`); what is refused changes nothing (`refused_is`,
 -- `frame_leaves`, `take_leaves`). Assumes nothing.
-use Rattle.rules.proofs.Common.{ℕ, ◌*◌, ◌<◌, Bool, true, false, true≢false, false≢true, List, ◌≡◌, refl, sym, ap, subst}
+use Rattle.std.specs.Prelude.{◌*◌, ◌<◌, ◌≡◌}
+use Rattle.rules.proofs.Common.{ℕ, Bool, true, false, true≢false, false≢true, List, refl, sym, ap, subst}
 use Rattle.rules.proofs.Common.{◌∙◌, eqb, length, Float}
 use native.Mathlib.Omega.{arith}
 use borrow.Author.Tests.{eqb-true, lt-ltb, eq-eqb, not-false}

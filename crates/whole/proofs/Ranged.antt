@@ -6,7 +6,8 @@
 --     frame-no-out                 a frame with no place for its samples is refused
 --     take_by                      what holds of a take, by its tests
 -- Assumes nothing.
-use Rattle.rules.proofs.Common.{ℕ, ◌*◌, ◌<◌, Bool, true, false, cond, not, false≢true, List, [], ◌∷◌, ◌++◌, ◌≡◌, refl}
+use Rattle.std.specs.Prelude.{◌*◌, ◌<◌, ◌∷◌, ◌++◌, ◌≡◌}
+use Rattle.rules.proofs.Common.{ℕ, Bool, true, false, cond, not, false≢true, List, [], refl}
 use Rattle.rules.proofs.Common.{sym, ◌∙◌, eqb, leb}
 use Rattle.rules.proofs.Common.{length, Float}
 use native.Mathlib.Omega.{arith}

@@ -3,7 +3,8 @@
 --     gathered, gathered-good          its samples, of those that wait and of a piece's
 --     So, begun, goes_on, come-to-end  after j frames: at the start, a frame later, and where no frame is left
 -- Assumes nothing.
-use Rattle.rules.proofs.Common.{ℕ, suc, ◌+◌, ◌-◌, ◌*◌, ◌≤◌, true, List, [], ◌∷◌, ◌++◌, ◌≡◌, refl, sym, ap, ap₂, ◌∙◌}
+use Rattle.std.specs.Prelude.{◌+◌, ◌-◌, ◌*◌, ◌≤◌, ◌∷◌, ◌++◌, ◌≡◌}
+use Rattle.rules.proofs.Common.{ℕ, suc, true, List, [], refl, sym, ap, ap₂, ◌∙◌}
 use Rattle.rules.proofs.Common.{length, get_or}
 use Rattle.rules.proofs.Common.{take, drop, replicate, length-take, length-drop, length-append, Float}
 use native.Mathlib.Nat.{sub-zero}

@@ -1,5 +1,6 @@
 -- Claims about a frame and a take in one call. Proofs: proofs/Halves.antt, proofs/Dictations.antt.
-use Rattle.rules.specs.Common.{ℕ, true, List, ◌≡◌, length, Float}
+use Rattle.std.specs.Prelude.{◌≡◌}
+use Rattle.rules.specs.Common.{ℕ, true, List, length, Float}
 use Rattle.frame.specs.Effect.{Effect}
 use Rattle.frame.specs.Reply.{passed}
 use Rattle.frame.specs.Written.{first_in}

@@ -1,5 +1,6 @@
 -- For the contracts of private functions: what dictation on one share asks for, and one frame of it.
-use Rattle.rules.specs.Common.{ℕ, ◌+◌, ◌*◌, ◌≤◌, true, List, ◌++◌, ◌≡◌, length, take, drop, Float}
+use Rattle.std.specs.Prelude.{◌+◌, ◌*◌, ◌≤◌, ◌++◌, ◌≡◌}
+use Rattle.rules.specs.Common.{ℕ, true, List, length, take, drop, Float}
 use Rattle.samples.specs.Samples.{good}
 use Rattle.model.specs.Model.{read_of}
 use Rattle.frame.specs.Effect.{Effect}

@@ -1,7 +1,8 @@
 -- A frame, or a piece, in one call, with our own logarithms, so that nothing is left to the host. By
 -- definition a frame is its two halves, and a take is the dictation of its samples, each on the side's own
 -- share. All refusals are tested before anything changes.
-use Rattle.rules.specs.Common.{ℕ, ◌*◌, cond, not, List, [], ◌∷◌, ◌++◌, eqb, leb, length, replicate, Float}
+use Rattle.std.specs.Prelude.{◌*◌, ◌∷◌, ◌++◌}
+use Rattle.rules.specs.Common.{ℕ, cond, not, List, [], eqb, leb, length, replicate, Float}
 use Rattle.rules.specs.Place.{get}
 use Rattle.rules.specs.Refusals.{wrong}
 use Rattle.frame.specs.Written.{from}

@@ -6,7 +6,7 @@ ghost use Rattle.desk.specs.Surface.{heard_of};
 
 use frame::Reply;
 
-#[derive(Drop)]
+#[derive(Clone, Copy)]
 pub struct Three {
     pub heard: f32,
     pub voice: f32,

@@ -1,7 +1,8 @@
 -- `desk::admit` meets its contract. Assumes nothing.
+use Rattle.std.specs.Prelude.{◌*◌, ◌<◌, ◌≡◌}
 use borrow.Author.Rules.{rules}
 use native.Mathlib.Omega.{arith}
-use Rattle.rules.proofs.Common.{◌*◌, ◌<◌, ◌≡◌, refl, sym, ◌∙◌}
+use Rattle.rules.proofs.Common.{refl, sym, ◌∙◌}
 use Rattle.frame.specs.Share.{SHARE}
 use Rattle.desk.specs.Gate.{BENCHES}
 use Rattle.desk.proofs.Turned.{through}

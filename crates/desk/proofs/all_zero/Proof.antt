@@ -1,7 +1,8 @@
 -- `desk::all_zero` meets its contract: each answer by the tests that lead to it. Assumes nothing.
+use Rattle.std.specs.Prelude.{◌≡◌}
 use borrow.Author.Rules.{rules}
 use borrow.Author.Tests.{eq-eqb}
-use Rattle.rules.proofs.Common.{ℕ, true, ◌≡◌, eqb}
+use Rattle.rules.proofs.Common.{ℕ, true, eqb}
 use Rattle.rules.proofs.Tests.{tests, answered_no, answered_yes}
 use Rattle.desk.specs.declared.Record.{Record}
 use Rattle.desk.specs.Gate.{idle, way_number, all_zero}

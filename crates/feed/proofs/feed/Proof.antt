@@ -1,5 +1,6 @@
 -- `feed::feed` meets its contract: the tests, and then its parts over an array. Assumes nothing.
-use Rattle.rules.proofs.Common.{◌≤◌, refl, sym, ◌∙◌}
+use Rattle.std.specs.Prelude.{◌≤◌}
+use Rattle.rules.proofs.Common.{refl, sym, ◌∙◌}
 use borrow.Author.Rules.{rules}
 use Rattle.rules.proofs.Refusals.{left}
 use Rattle.rules.proofs.Tests.{answered_yes}

@@ -1,6 +1,7 @@
 -- `whole::heard::tell` meets its contract: three stores are a `put`. Assumes nothing.
+use Rattle.std.specs.Prelude.{◌+◌, ◌*◌, ◌≤◌, ◌∷◌, ◌≡◌}
 use borrow.Author.Rules.{rules}
-use Rattle.rules.proofs.Common.{ℕ, suc, ◌+◌, ◌*◌, ◌≤◌, List, [], ◌∷◌, ◌≡◌, ap, ◌∙◌, length, set, length-set, Float}
+use Rattle.rules.proofs.Common.{ℕ, suc, List, [], ap, ◌∙◌, length, set, length-set, Float}
 use native.Mathlib.Omega.{arith}
 use Rattle.rules.specs.Place.{put}
 use Rattle.rules.proofs.Places.{put_sets}

@@ -1,7 +1,8 @@
 -- `whole::one_frame::frame` meets its contract: it is refused, or said over the side's share. Assumes nothing.
+use Rattle.std.specs.Prelude.{◌*◌, ◌<◌, ◌≡◌}
 use borrow.Author.Rules.{rules}
 use native.Mathlib.Omega.{arith}
-use Rattle.rules.proofs.Common.{◌*◌, ◌<◌, ◌≡◌, length}
+use Rattle.rules.proofs.Common.{length}
 use Rattle.rules.specs.Place.{get, put}
 use Rattle.rules.proofs.Tests.{answered_no, answered_yes}
 use Rattle.frame.specs.Share.{SHARE}

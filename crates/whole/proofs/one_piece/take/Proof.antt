@@ -1,8 +1,8 @@
 -- `whole::one_piece::take` meets its contract: it is refused, or its samples are dictated over the side's share.
 -- Assumes nothing.
+use Rattle.std.specs.Prelude.{◌*◌, ◌<◌, ◌≡◌}
 use borrow.Author.Rules.{rules}
 use native.Mathlib.Omega.{arith}
-use Rattle.rules.proofs.Common.{◌*◌, ◌<◌, ◌≡◌}
 use lib.ListN.{length}
 use Rattle.rules.specs.Place.{get, put}
 use Rattle.rules.proofs.Tests.{answered_no, answered_yes}

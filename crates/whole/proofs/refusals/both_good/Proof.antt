@@ -1,6 +1,7 @@
 -- `whole::refusals::both_good` meets its contract. Assumes nothing.
+use Rattle.std.specs.Prelude.{◌+◌, ◌-◌, ◌*◌, ◌≤◌, ◌<◌, ◌≡◌}
 use borrow.Author.Rules.{rules}
-use Rattle.rules.proofs.Common.{ℕ, ◌+◌, ◌-◌, ◌*◌, ◌≤◌, ◌<◌, List, ◌≡◌, sym, ◌∙◌, length, Float}
+use Rattle.rules.proofs.Common.{ℕ, List, sym, ◌∙◌, length, Float}
 use native.Mathlib.Nat.{add-sub_cancel_left}
 use native.Mathlib.Omega.{arith}
 use Rattle.rules.specs.Place.{get}

@@ -1,7 +1,8 @@
 -- `whole::refusals::take_reply` meets its contract: each answer by the tests that lead to it. Assumes nothing.
+use Rattle.std.specs.Prelude.{◌≤◌}
 use borrow.Author.Rules.{rules}
 use native.Mathlib.Omega.{arith}
-use Rattle.rules.proofs.Common.{◌≤◌, sym, ◌∙◌, length}
+use Rattle.rules.proofs.Common.{sym, ◌∙◌, length}
 use borrow.Author.Tests.{ne_eqb, le-leb, lt-leb}
 use Rattle.rules.proofs.Tests.{answered_no, answered_yes}
 use Rattle.desk.specs.Gate.{BENCHES}

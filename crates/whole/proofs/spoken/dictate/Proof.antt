@@ -1,6 +1,7 @@
 -- `whole::spoken::dictate` meets its contract: after j turns j frames are said, and at the end the rest waits.
 -- Assumes nothing.
-use Rattle.rules.proofs.Common.{ℕ, ◌+◌, ◌-◌, ◌*◌, ◌≤◌, List, ◌≡◌, refl, length, Float}
+use Rattle.std.specs.Prelude.{◌+◌, ◌-◌, ◌*◌, ◌≤◌, ◌≡◌}
+use Rattle.rules.proofs.Common.{ℕ, List, refl, length, Float}
 use native.Mathlib.Omega.{arith}
 use Rattle.rules.proofs.Loops.{turns}
 use Rattle.pieces.specs.Pieces.{completes}

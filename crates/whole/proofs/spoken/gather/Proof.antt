@@ -1,8 +1,9 @@
 -- `whole::spoken::gather` meets its contract. Assumes nothing.
+use Rattle.std.specs.Prelude.{◌+◌, ◌-◌, ◌*◌, ◌++◌, ◌≡◌}
 use borrow.Author.Rules.{rules}
 use native.Mathlib.Nat.{add-sub_cancel_left}
 use native.Mathlib.Omega.{arith}
-use Rattle.rules.proofs.Common.{ℕ, ◌+◌, ◌-◌, ◌*◌, ◌++◌, ◌≡◌, sym, ap, ◌∙◌, length, drop, length-drop}
+use Rattle.rules.proofs.Common.{ℕ, sym, ap, ◌∙◌, length, drop, length-drop}
 use lib.Seq.{take_all, drop-append-add}
 use Rattle.rules.specs.Place.{get}
 use Rattle.frame.specs.Share.{PART}

@@ -1,6 +1,7 @@
 -- `whole::spoken::settle` meets its contract. Assumes nothing.
+use Rattle.std.specs.Prelude.{◌≡◌}
 use borrow.Author.Rules.{rules}
-use Rattle.rules.proofs.Common.{◌≡◌, ap, ◌∙◌, length, take, drop, length-take, length-drop}
+use Rattle.rules.proofs.Common.{ap, ◌∙◌, length, take, drop, length-take, length-drop}
 use native.Mathlib.Omega.{arith}
 use Rattle.rules.specs.Place.{get, put}
 use Rattle.rules.proofs.Refusals.{left}

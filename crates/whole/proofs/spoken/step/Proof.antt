@@ -1,8 +1,9 @@
 -- `whole::spoken::step` meets its contract: its samples, the frame, and three answers. Assumes nothing.
+use Rattle.std.specs.Prelude.{◌*◌, ◌++◌}
 use borrow.Author.Rules.{rules}
 use native.Mathlib.Nat.{add-sub_cancel_left}
 use native.Mathlib.Omega.{arith}
-use Rattle.rules.proofs.Common.{◌*◌, ◌++◌, ◌∙◌}
+use Rattle.rules.proofs.Common.{◌∙◌}
 use Rattle.rules.specs.Place.{get, put}
 use Rattle.rules.proofs.Places.{length_get}
 use Rattle.pieces.specs.Pieces.{waiting_in}
