@@ -9,7 +9,7 @@ use Rattle.rules.specs.Leaf.{◌leaving◌}
 use Rattle.rules.specs.Lists.{sum}
 use Rattle.rules.proofs.Refusals.{leave_both}
 use Rattle.rules.proofs.Places.{all_stored}
-use Rattle.sheet.specs.Sheet.{four, records_of, trailer_of, sheet_bytes}
+use Rattle.sheet.specs.Sheet.{four, records_of, trailer_of}
 use Rattle.sheet.specs.Rows.{Tally, with_records, records_laid}
 use Rattle.sheet.specs.Laws.{in_row, together, PartsAreWhole}
 use Rattle.sheet.specs.Written.{known_kinds}

@@ -1,18 +1,17 @@
 -- What a host is told of what it wrote (`written_is_reported`, `parts_are_reported`). Assumes nothing.
-use Rattle.rules.proofs.Common.{ℕ, ◌+◌, ◌*◌, ◌≤◌, ◌<◌, Bool, true, false, not, ◌&&◌, false≢true, List, [], ◌∷◌, ◌++◌}
+use Rattle.rules.proofs.Common.{ℕ, ◌+◌, ◌*◌, ◌≤◌, Bool, true, false, not, ◌&&◌, List, [], ◌∷◌, ◌++◌}
 use Rattle.rules.proofs.Common.{◌≡◌, refl, sym, ap, ap₂, ◌∙◌, ltb, length}
 use Rattle.rules.proofs.Common.{get_or, take, drop, length-append}
-use mathlib.Core.List.{append_assoc}
 use native.Mathlib.Omega.{arith}
-use borrow.Author.Tests.{le-leb, lt-leb, eq-eqb, ltb-false, not-false}
+use borrow.Author.Tests.{lt-leb, eq-eqb, ltb-false, not-false}
 use lib.Seq.{take_at}
 use Rattle.rules.specs.Leaf.{◌leaving◌}
 use Rattle.rules.specs.Refusals.{Row, ◌when◌}
 use Rattle.rules.proofs.Refusals.{clear, none_held}
 use Rattle.sheet.specs.Sheet.{Sheet, kind, records_of, trailer_of, sheet_bytes, sheet_size}
-use Rattle.sheet.specs.End.{End, sheet, refused, end_of, read_sheet}
-use Rattle.sheet.specs.Asked.{sheet_summary, entry_in, entry_at}
-use Rattle.sheet.specs.Written.{known_kinds, written_of}
+use Rattle.sheet.specs.End.{sheet, end_of, read_sheet}
+use Rattle.sheet.specs.Asked.{sheet_summary, entry_at}
+use Rattle.sheet.specs.Written.{known_kinds}
 use Rattle.sheet.specs.Rows.{Tally, with_records, records_faults, records_laid, trailer_laid}
 use Rattle.sheet.specs.Laws.{in_row, together, Reports, WrittenIsReported, WrittenInParts, closing, adding}
 use Rattle.sheet.specs.Laws.{PartsAreReported}

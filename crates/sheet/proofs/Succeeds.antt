@@ -1,14 +1,14 @@
 -- Mending is not refused where it can be done (`mend_succeeds`). Assumes nothing.
-use Rattle.rules.proofs.Common.{ℕ, ◌+◌, ◌*◌, ◌≤◌, Bool, true, false, cond, not, ◌&&◌, true≢false, List, [], ◌∷◌, ◌++◌}
-use Rattle.rules.proofs.Common.{◌≡◌, refl, sym, ap, ◌∙◌, eqb, ltb, length}
+use Rattle.rules.proofs.Common.{ℕ, ◌+◌, ◌≤◌, Bool, true, false, cond, not, ◌&&◌, true≢false, List, [], ◌∷◌, ◌++◌}
+use Rattle.rules.proofs.Common.{◌≡◌, refl, sym, ap, eqb, ltb, length}
 use Rattle.rules.proofs.Common.{take, drop}
 use native.Mathlib.Omega.{arith}
 use mathlib.Core.Logic.{◌⊎◌, inl, inr}
 use borrow.Author.Tests.{le-ltb, eq-eqb, ne_eqb}
 use Rattle.rules.specs.Leaf.{◌leaving◌}
-use Rattle.rules.proofs.Refusals.{Clear, clear}
+use Rattle.rules.proofs.Refusals.{clear}
 use Rattle.sheet.specs.Sheet.{sheet_bytes}
-use Rattle.sheet.specs.End.{good_record, run, read_sheet}
+use Rattle.sheet.specs.End.{run, read_sheet}
 use Rattle.sheet.specs.Mended.{kept, torn, reads_at, records_in, Mended, mended, mend_faults, mend_of}
 use Rattle.sheet.specs.Laws.{RecordsFollow, MendSucceeds}
 use Rattle.sheet.proofs.Kept.{no_longer}

@@ -1,6 +1,7 @@
 // A side sheet, which follows the audio (request 02): records of 8 bytes, and a trailer of 16 that points
 // back to them. What comes before the records is not read.
 #![tactic(auto)]
+
 pub mod parts;
 
 ghost use Rattle.std.specs.Prelude.{false, ◌≡◌, ◌+◌, ◌*◌, ◌/◌, ◌%◌, ◌≤◌, ◌<◌, ◌^◌, length, drop};

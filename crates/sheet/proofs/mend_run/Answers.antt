@@ -1,0 +1,118 @@
+use Rattle.rules.proofs.Common.{ℕ, List, ◌-◌, ◌+◌, ◌*◌, ◌≤◌, [], ◌∷◌, ◌++◌, ◌≡◌, sym, ap, ◌∙◌, length, take, drop, length-set}
+use Rattle.rules.proofs.Common.{length-take}
+use native.Mathlib.Omega.{arith}
+use borrow.Author.Tests.{lt-ltb, le-ltb, eq-eqb, ne_eqb}
+use lib.Seq.{get_or-drop}
+use Rattle.rules.proofs.Refusals.{leave_both}
+use Rattle.rules.proofs.Places.{all_stored}
+use Rattle.sheet.specs.Sheet.{sheet_bytes}
+use Rattle.sheet.specs.Mended.{kept, torn}
+use Rattle.sheet.proofs.Kept.{kept_known}
+use Rattle.sheet.proofs.Mending.{by_run, part_kept, size_anew, run_within, part_size, lay_anew}
+use Rattle.sheet.proofs.mend_run.Goals as goal
+
+-- what is kept behind the place
+module _ (s : List ℕ) (at n : ℕ) (before : at ≤ length s) (told : n ≡ kept (take (length s - at) (drop at s))) where
+  kept_there : n ≡ kept (drop at s)
+  kept_there = told ∙ ap kept (part_kept s at)
+
+  some_kept : (n ≡ 0 → ⊥) → kept (drop at s) ≡ 0 → ⊥
+  some_kept h e = h (kept_there ∙ e)
+
+  within : at + 8 * n ≤ length s
+  within = run_within s at before kept_there
+
+  size : length (take at s ++ sheet_bytes (torn (drop at s))) ≡ at + 8 * n + 16
+  size = size_anew s at before kept_there
+
+pub returns-then-records-eq0 : goal.returns-then-records-eq0
+returns-then-records-eq0 c = rw (← by_run c.args.file.now c.args.at c.args.numbers.now c.args.out.now c.requires.0 c.requires.1 c.requires.2, eq-eqb _ 0 (sym (kept_there c.args.file.now c.args.at _ c.requires.1 c.kept_of-records.ensures) ∙ c.if-records-eq0.true))
+
+pub returns-then-records-gt536870911 : goal.returns-then-records-gt536870911
+returns-then-records-gt536870911 c = rw (← by_run c.args.file.now c.args.at c.args.numbers.now c.args.out.now c.requires.0 c.requires.1 c.requires.2, ← kept_there c.args.file.now c.args.at _ c.requires.1 c.kept_of-records.ensures, ne_eqb _ 0 c.if-records-eq0.false, lt-ltb _ _ c.if-records-gt536870911.true)
+
+pub returns-then-out-size : goal.returns-then-out-size
+returns-then-out-size c =
+    rw (
+      ← by_run c.args.file.now c.args.at c.args.numbers.now c.args.out.now c.requires.0 c.requires.1 c.requires.2,
+      size c.args.file.now c.args.at _ c.requires.1 c.kept_of-records.ensures,
+      ← kept_there c.args.file.now c.args.at _ c.requires.1 c.kept_of-records.ensures,
+      ne_eqb _ 0 c.if-records-eq0.false,
+      le-ltb _ _ c.if-records-gt536870911.false,
+      lt-ltb _ _ c.if-out-size.true,
+    )
+
+pub bounds-file-at : goal.bounds-file-at
+bounds-file-at c = omega (arith, within c.args.file.now c.args.at _ c.requires.1 c.kept_of-records.ensures, c.if-records-eq0.false)
+
+pub overflow_cast-side : goal.overflow_cast-side
+overflow_cast-side c =
+    omega (
+      arith,
+      c.shared_slice_known-2-1.given
+          (c.args.at + 5),
+    )
+
+pub slice_bounds-copy-end-2 : goal.slice_bounds-copy-end-2
+slice_bounds-copy-end-2 c = simp length-take (omega arith)
+
+pub slice_bounds-copy-end-3 : goal.slice_bounds-copy-end-3
+slice_bounds-copy-end-3 c =
+    simp length-take
+    (omega (arith, within c.args.file.now c.args.at _ c.requires.1 c.kept_of-records.ensures))
+
+pub copy-requires : goal.copy-requires
+copy-requires c =
+    simp length-take
+    (omega (
+      arith,
+      within c.args.file.now c.args.at _ c.requires.1 c.kept_of-records.ensures,
+      c.if-out-size.false,
+    ))
+
+pub close-requires : goal.close-requires
+close-requires c =
+    let s = c.args.file.now in
+    let known = rw (get_or-drop c.args.at s 5 0) at
+    (kept_known (drop c.args.at s)
+    (some_kept c.args.file.now c.args.at _ c.requires.1 c.kept_of-records.ensures c.if-records-eq0.false)) in (
+      part_size s c.args.at c.requires.1 (kept_there c.args.file.now c.args.at _ c.requires.1 c.kept_of-records.ensures) c.args.out.now
+          c.copy.ensures
+          c.if-out-size.false,
+      omega (arith, c.if-records-gt536870911.false),
+      omega (arith, known),
+    )
+
+pub bounds-numbers-1 : goal.bounds-numbers-1
+bounds-numbers-1 c =
+    simp length-set
+    (omega (
+      arith,
+      c.requires.0,
+    ))
+
+pub returns : goal.returns
+returns c =
+    let s = c.args.file.now in
+    let at = c.args.at in
+    let out = c.args.out.now in
+    let bytes = take at s ++ sheet_bytes (torn (drop at s)) in
+    let some =
+    some_kept c.args.file.now c.args.at _ c.requires.1 c.kept_of-records.ensures
+    c.if-records-eq0.false in
+    let few = rw (kept_there c.args.file.now c.args.at _ c.requires.1 c.kept_of-records.ensures) at
+    c.if-records-gt536870911.false in
+    let room : length bytes ≤ length out =
+    rw (size c.args.file.now c.args.at _ c.requires.1 c.kept_of-records.ensures) c.if-out-size.false in
+    let told = all_stored c.args.numbers.now ((at + 8 * c.kept_of-records.result + 16) ∷ c.kept_of-records.result ∷ [])
+    c.requires.0 in
+    let laid = lay_anew s at c.requires.1 (kept_there c.args.file.now c.args.at _ c.requires.1 c.kept_of-records.ensures) out (λ i. omega (arith, c.type_inv.file i)) (sym (get_or-drop at s 5 0))
+    c.copy.ensures c.close.ensures in
+    rw (
+      ← by_run c.args.file.now c.args.at c.args.numbers.now c.args.out.now c.requires.0 c.requires.1 c.requires.2,
+      ne_eqb (kept (drop at s)) 0 some,
+      le-ltb 536870911 (kept (drop at s)) few,
+      le-ltb (length out) (length bytes) room,
+      size c.args.file.now c.args.at _ c.requires.1 c.kept_of-records.ensures,
+    )
+    (leave_both (told ∙ rw (← kept_there c.args.file.now c.args.at _ c.requires.1 c.kept_of-records.ensures)) laid)

@@ -1,0 +1,41 @@
+use Rattle.rules.proofs.Common.{sym, ◌∙◌, length-take}
+use native.Mathlib.Omega.{arith}
+use Rattle.sheet.proofs.Runs.{all_heard}
+use Rattle.sheet.proofs.InRow.{rows_5, rows_32, rows_33, rows_34, rows_36, rows_laid}
+use Rattle.sheet.proofs.parts.records.Goals as goal
+
+pub returns-then-numbers-ne2 : goal.returns-then-numbers-ne2
+returns-then-numbers-ne2 c = rows_5 _ _ _ _ c.if-numbers-ne2.true
+
+pub returns-then-more-gt536870911 : goal.returns-then-more-gt536870911
+returns-then-more-gt536870911 c = rows_32 _ _ _ _ c.if-numbers-ne2.false (omega arith)
+
+pub returns-then-more-before : goal.returns-then-more-before
+returns-then-more-before c = rows_32 _ _ _ _ c.if-numbers-ne2.false (omega arith)
+
+pub returns-then-side-gt1 : goal.returns-then-side-gt1
+returns-then-side-gt1 c = rows_33 _ _ _ _ c.if-numbers-ne2.false (omega arith) c.if-side-gt1.true
+
+pub returns-then-not-kinds_good : goal.returns-then-not-kinds_good
+returns-then-not-kinds_good c =
+    rows_34 _ _ _ _ c.if-numbers-ne2.false (omega arith) c.if-side-gt1.false
+    (sym c.kinds_good.ensures ∙ c.if-not-kinds_good.true)
+
+pub returns-then-out-end : goal.returns-then-out-end
+returns-then-out-end c =
+    rows_36 _ _ _ _ c.if-numbers-ne2.false (omega arith) c.if-side-gt1.false
+    (sym c.kinds_good.ensures ∙ c.if-not-kinds_good.false) c.if-out-end.true
+
+pub lay-sum-requires : goal.lay-sum-requires
+lay-sum-requires c = (
+  simp length-take (omega arith),
+  c.if-side-gt1.false,
+  all_heard _ (sym c.kinds_good.ensures ∙ c.if-not-kinds_good.false),
+  omega arith,
+)
+
+pub returns : goal.returns
+returns c =
+    rows_laid _ _ _ _ c.if-numbers-ne2.false (omega arith) c.if-side-gt1.false
+    (sym c.kinds_good.ensures ∙ c.if-not-kinds_good.false) c.if-out-end.false c.lay-sum.ensures.0
+    c.lay-sum.ensures.1

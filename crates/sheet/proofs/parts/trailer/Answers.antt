@@ -1,0 +1,38 @@
+use Rattle.rules.proofs.Common.{ap, ◌∙◌, length, length-take}
+use native.Mathlib.Omega.{arith}
+use borrow.Author.Tests.{le-ltb}
+use Rattle.rules.proofs.Tests.{tests}
+use Rattle.sheet.specs.Rows.{trailer_laid}
+use Rattle.sheet.proofs.Laying.{length_trailer}
+use Rattle.sheet.proofs.parts.trailer.Goals as goal
+
+pub returns-then-count-gt536870911 : goal.returns-then-count-gt536870911
+unfolding trailer_laid
+returns-then-count-gt536870911 c = search tests
+
+pub returns-then-side-gt1 : goal.returns-then-side-gt1
+unfolding trailer_laid
+returns-then-side-gt1 c = search tests
+
+pub returns-then-out-lt16 : goal.returns-then-out-lt16
+unfolding trailer_laid
+returns-then-out-lt16 c = search tests
+
+pub slice_bounds-copy-end-2 : goal.slice_bounds-copy-end-2
+slice_bounds-copy-end-2 c = simp length-take (omega (arith, c.if-out-lt16.false))
+
+pub copy-requires : goal.copy-requires
+copy-requires c =
+    let size = ap length c.trailer_of-bytes.ensures ∙ length_trailer _ _ _ in
+    simp length-take (omega (arith, c.if-out-lt16.false))
+
+pub returns : goal.returns
+unfolding trailer_laid
+returns c =
+    rw (
+      le-ltb _ _ c.if-count-gt536870911.false,
+      le-ltb 1 _ c.if-side-gt1.false,
+      le-ltb _ 16 c.if-out-lt16.false,
+      c.copy.ensures,
+      c.trailer_of-bytes.ensures,
+    )
