@@ -38,6 +38,8 @@ length_file [] [] f = refl
 length_file (k ∷ ks) (l ∷ ls) f =
     simp length-append (omega
     (arith, length_joined (lengths k l.inputs l.neurons) l.arrays f.0.arrays, length_file ks ls f.1))
+length_file [] (l ∷ ls) f = elim f [ ]
+length_file (k ∷ ks) [] f = elim f [ ]
 
 -- a, b, c and d are the neurons of layers 0 to 3, and i and j the inputs of layers 2 and 3
 largest_sum : (a b c d i j : ℕ) → 1 ≤ b → d < 128 → i < 128 → j < 128 → 42 + a + b ≡ i → 42 + b + c ≡ j

@@ -32,6 +32,8 @@ Sized (n ∷ ns) (x ∷ xs) = (length x ≡ n) × Sized ns xs
 pub length_joined : (ns : List ℕ) (xs : List (List ℕ)) → Sized ns xs → length (joined xs) ≡ sum ns
 length_joined [] [] h = refl
 length_joined (n ∷ ns) (x ∷ xs) h = simp (length-append, length_joined ns xs h.1, h.0)
+length_joined [] (x ∷ xs) h = elim h [ ]
+length_joined (n ∷ ns) [] h = elim h [ ]
 
 cut_joined : (ns : List ℕ) (xs : List (List ℕ)) (rest : List ℕ) → Sized ns xs → cut ns (joined xs ++ rest) ≡ xs
 cut_joined [] [] rest h = refl
@@ -43,6 +45,8 @@ cut_joined (n ∷ ns) (x ∷ xs) rest h =
       drop-append_seam x (joined xs ++ rest),
       cut_joined ns xs rest h.1,
     )
+cut_joined [] (x ∷ xs) rest h = elim h [ ]
+cut_joined (n ∷ ns) [] rest h = elim h [ ]
 
 sized_cut : (ns s : List ℕ) → sum ns ≤ length s → Sized ns (cut ns s)
 sized_cut [] s h = tt
@@ -147,6 +151,8 @@ row_reads (k ∷ ks) (l ∷ ls) rest h =
           ∙ rw (layer_reads k l r h.0),
       (layer_clear k l r h.0, more.1),
     )
+row_reads [] (l ∷ ls) rest h = elim h [ ]
+row_reads (k ∷ ks) [] rest h = elim h [ ]
 
 pub row_fits : (ks : List Kind) (s : List ℕ) → AllClear ks s → let r = read_layers ks s in
     FitAll ks r.0 × (s ≡ file_of r.0 ++ r.1)

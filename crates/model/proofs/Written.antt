@@ -52,10 +52,14 @@ sized (n ∷ ns) (x ∷ xs) e = let both = neither _ _ e in (same (length x) n b
 unsized : (ns : List ℕ) (xs : List (List ℕ)) → Sized ns xs → differ (map length xs) ns ≡ false
 unsized [] [] h = refl
 unsized (n ∷ ns) (x ∷ xs) h = rw (eq-eqb (length x) n h.0) (unsized ns xs h.1)
+unsized [] (x ∷ xs) h = elim h [ ]
+unsized (n ∷ ns) [] h = elim h [ ]
 
 as_many : (ns : List ℕ) (xs : List (List ℕ)) → Sized ns xs → length xs ≡ length ns
 as_many [] [] h = refl
 as_many (n ∷ ns) (x ∷ xs) h = ap suc (as_many ns xs h.1)
+as_many [] (x ∷ xs) h = elim h [ ]
+as_many (n ∷ ns) [] h = elim h [ ]
 
 three_arrays : (k : Kind) (i n : ℕ) (xs : List (List ℕ)) → Sized (lengths k i n) xs → length xs ≡ 3
 three_arrays Dense i n xs h = as_many (lengths Dense i n) xs h
@@ -105,6 +109,8 @@ given_back (k ∷ ks) (l ∷ ls) f =
       drop_at l.arrays (arrays_in ls) 3 long,
       given_back ks ls f.1,
     )
+given_back [] (l ∷ ls) f = elim f [ ]
+given_back (k ∷ ks) [] f = elim f [ ]
 
 clear_back : (j : ℕ) (ks : List Kind) (ls : List Layer) → FitAll ks ls
     → Clear (row_faults j ks (shapes_of ls) (map length (arrays_in ls)))
@@ -124,10 +130,14 @@ clear_back j (k ∷ ks) (l ∷ ls) f =
         (le-ltb _ _ (number_small l.activation), (ne_eqb _ _ f.0.some, (fits, clear_back (suc j) ks ls f.1))),
       ),
     )
+clear_back j [] (l ∷ ls) f = elim f [ ]
+clear_back j (k ∷ ks) [] f = elim f [ ]
 
 length_shapes : (ks : List Kind) (ls : List Layer) → FitAll ks ls → length (shapes_of ls) ≡ 3 * length ks
 length_shapes [] [] f = refl
 length_shapes (k ∷ ks) (l ∷ ls) f = omega (arith, length_shapes ks ls f.1)
+length_shapes [] (l ∷ ls) f = elim f [ ]
+length_shapes (k ∷ ks) [] f = elim f [ ]
 
 -- ---- a writing that is done
 
