@@ -13,8 +13,8 @@ pub use prog.Wp.{Heap}
 pub use prog.Model.{Model}
 pub use ghost.Atoms.{Atoms}
 pub use contract.Lifetimes.{Lfts, Shares}
-pub use contract.Running.{Running, GhostRules, given_of}
-pub use types.Kit.{Given, Item, ‵, raw, ◌⊛◌, ⋆, mean, ◌$◌, ◌∵◌, !, qed, by, move, keep, drop, group, use1, use2, split}
+pub use contract.Running.{Running}
+pub use types.Kit.{Item, ‵, raw, ◌⊛◌, ⋆, mean, ◌$◌, ◌∵◌, !, qed, by, move, keep, drop, group, use1, use2, split}
 pub use types.Kit.{join, fsplit, fjoin, feq_l, suffices, frame, done}
 pub use types.Part.{agg, whole, sub, look_in}
 pub use types.Run.{look, init, stop, hop, fld, from, addr, of_opd, and_then, no_more, returns, enter, alloc1, alloc0}
