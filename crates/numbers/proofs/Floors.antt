@@ -1,6 +1,6 @@
 -- A number up to 200.5, added to 2 ^ 23 and taken from it again, is a whole number next to it; less 1 where that is
 -- above it, it is its whole part. Assumes nothing.
-use Rattle.rules.proofs.Common.{ℕ, suc, ◌+◌, ◌-◌, ◌*◌, ◌/◌, ◌^◌, ◌≤◌, ◌<◌, Bool, true, false, cond, true≢false, List}
+use Rattle.rules.proofs.Common.{ℕ, ◌+◌, ◌-◌, ◌*◌, ◌/◌, ◌^◌, ◌≤◌, ◌<◌, Bool, true, false, cond, true≢false, List}
 use Rattle.rules.proofs.Common.{◌≡◌, refl, sym, ap, subst, ◌∙◌}
 use Rattle.rules.proofs.Common.{eqb, T, pos, Float, binary32, nan, inf, fin, is_nan, up, down}
 use Rattle.std.proofs.Common.{ℤ, nat_abs, ⊎_elim, suc-le-suc, lt_of_lt_of_le, le_of_lt, mul-le-mul_right, mul_assoc, suc-mul, div-lt_iff_lt-mul, add-mul, le_antisymm, eq-or-lt_of_le, mul-lt-mul_of_pos_right, mul-pos, le-div_iff_mul-le, mul-one, mul_right_comm, div-mul-le_self, div-one, arith, lit<, lit≤, eqb→eq, w32, to_z, of_z, le-ltb, lt-ltb}

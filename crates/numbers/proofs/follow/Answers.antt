@@ -1,5 +1,4 @@
 -- `numbers::follow` meets its contract. Assumes nothing.
-use Rattle.std.proofs.Common.{rules}
 use Rattle.numbers.proofs.Floors.{inside_within}
 use Rattle.numbers.proofs.follow.Goals as goal
 

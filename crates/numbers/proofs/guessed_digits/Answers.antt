@@ -1,5 +1,5 @@
 -- `numbers::guessed_digits` meets its contract. Assumes nothing.
-use Rattle.std.proofs.Common.{arith, rules}
+use Rattle.std.proofs.Common.{arith}
 use lib.Ieee.{binary64}
 use Rattle.numbers.proofs.NoNan.{real_of, real_pattern}
 use Rattle.numbers.proofs.guessed_digits.Goals as goal

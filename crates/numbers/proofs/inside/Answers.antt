@@ -1,5 +1,4 @@
 -- `numbers::inside` meets its contract. Assumes nothing.
-use Rattle.std.proofs.Common.{rules}
 use Rattle.numbers.proofs.inside.Goals as goal
 
 pub returns-then-x-2 : goal.returns-then-x-2

@@ -1,23 +1,22 @@
 -- `numbers::max` meets its contract: each arm returns what `larger` picks under the tests that led there.
 -- Assumes nothing.
-use Rattle.rules.proofs.Common.{false, ◌≡◌, sym, ◌∙◌, is_nan}
-use Rattle.std.proofs.Common.{rules}
+use Rattle.rules.proofs.Common.{Bool, true, false, ◌||◌, ◌≡◌, sym, ◌∙◌, Float, lt, is_nan}
+use Rattle.rules.specs.F32.{f32}
 use Rattle.numbers.specs.Larger.{yields}
 use Rattle.numbers.proofs.NoNan.{nan_test}
 use Rattle.numbers.proofs.Larger.{no_zero}
 use Rattle.numbers.proofs.max.Goals as goal
 
-plain : (c : goal.Then-off_zero) → (is_nan c.args.a ≡ false)
-    × (yields c.args.a c.args.b ≡ false)
-plain c =
-    no_zero c.args.a c.args.b
-    (sym c.Off-zero.ensures ∙ c.if-off_zero.true)
+-- neither a NaN nor a zero that gives way
+plain : (a b : Float) (r : Bool) → r ≡ (lt a (f32 0) || lt (f32 0) a) → r ≡ true
+    → (is_nan a ≡ false) × (yields a b ≡ false)
+plain a b r e t = no_zero a b (sym e ∙ t)
 
 pub returns-then-a-b : goal.returns-then-a-b
-returns-then-a-b c = simp ((plain c).0, c.if-a-b.true)
+returns-then-a-b c = simp ((plain c.args.a c.args.b _ c.off_zero.ensures c.if-off_zero.true).0, c.if-a-b.true)
 
 pub returns-else-a-b : goal.returns-else-a-b
-returns-else-a-b c = simp ((plain c).0, (plain c).1, c.if-a-b.false)
+returns-else-a-b c = simp ((plain c.args.a c.args.b _ c.off_zero.ensures c.if-off_zero.true).0, (plain c.args.a c.args.b _ c.off_zero.ensures c.if-off_zero.true).1, c.if-a-b.false)
 
 pub returns-then-a : goal.returns-then-a
 returns-then-a c = simp (← nan_test, c.if-a.true)

@@ -1,16 +1,15 @@
 -- `numbers::narrow_magnitude` meets its contract: each arm is a case of `proofs/Conversion.antt`. Assumes nothing.
-use Rattle.std.proofs.Common.{ℕ, min, sym, subst, le_of_lt, rules}
+use Rattle.std.proofs.Common.{ℕ, ◌-◌, ◌*◌, ◌^◌, ◌≤◌, ◌≡◌, min, sym, subst, le_of_lt, rules}
+use lib.Ieee.Nearest.{closest}
 use native.Mathlib.Nat.{min-eq_left, min-eq_right}
 use Rattle.numbers.specs.Private.{Narrows}
 use Rattle.numbers.proofs.Conversion.{normal_narrows, subnormal_narrows, zero_narrows}
 use Rattle.numbers.proofs.narrow_magnitude.Goals as goal
 
 -- the smaller of what `rounded` gave and the pattern of the infinity
-at_most : (c : goal.After-rounded-r) → Narrows c.args.a (min c.rounded-r.result 0x7f80_0000)
-at_most c =
-    let a = c.args.a in
-    subst (λ (x : ℕ). Narrows a (min x 0x7f80_0000)) (sym c.rounded-r.ensures)
-    (normal_narrows a c.if-a-ge-NORMAL.true c.requires)
+at_most : (a r : ℕ) → 0x3810_0000_0000_0000 ≤ a → a ≤ 2047 * 2 ^ 52 → r ≡ closest (a - 0x3800_0000_0000_0000) (2 ^ 29)
+    → Narrows a (min r 0x7f80_0000)
+at_most a r from small e = subst (λ (x : ℕ). Narrows a (min x 0x7f80_0000)) (sym e) (normal_narrows a from small)
 
 pub overflow_sub-a : goal.overflow_sub-a
 overflow_sub-a c = search rules
@@ -19,10 +18,10 @@ pub rounded-r-requires : goal.rounded-r-requires
 rounded-r-requires c = search rules
 
 pub returns-then-r-lt-INFINITY : goal.returns-then-r-lt-INFINITY
-returns-then-r-lt-INFINITY c = subst (Narrows c.args.a) (min-eq_left (le_of_lt c.if-r-lt-INFINITY.true)) (at_most c)
+returns-then-r-lt-INFINITY c = subst (Narrows c.args.a) (min-eq_left (le_of_lt c.if-r-lt-INFINITY.true)) (at_most c.args.a _ c.if-a-ge-NORMAL.true c.requires c.rounded-r.ensures)
 
 pub returns-then-a-ge-NORMAL : goal.returns-then-a-ge-NORMAL
-returns-then-a-ge-NORMAL c = subst (Narrows c.args.a) (min-eq_right c.if-r-lt-INFINITY.false) (at_most c)
+returns-then-a-ge-NORMAL c = subst (Narrows c.args.a) (min-eq_right c.if-r-lt-INFINITY.false) (at_most c.args.a _ c.if-a-ge-NORMAL.true c.requires c.rounded-r.ensures)
 
 pub overflow_add-a : goal.overflow_add-a
 overflow_add-a c = search rules

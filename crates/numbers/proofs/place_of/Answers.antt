@@ -1,5 +1,4 @@
 -- `numbers::place_of` meets its contract. Assumes nothing.
-use Rattle.std.proofs.Common.{rules}
 use Rattle.numbers.proofs.UpToEight.{half_up}
 use Rattle.numbers.proofs.Floors.{whole_part_lem}
 use Rattle.numbers.proofs.place_of.Goals as goal

@@ -1,7 +1,7 @@
 -- `numbers::root_digits` meets its contract: what passes the tests is nearest to the root, and there is only one such
 -- number. Assumes nothing.
 use Rattle.rules.proofs.Common.{ℕ, ◌+◌, ◌-◌, ◌*◌, ◌^◌, ◌<◌, ◌≡◌, ap, ◌∙◌}
-use Rattle.std.proofs.Common.{le_of_lt, arith, lit<, rules}
+use Rattle.std.proofs.Common.{le_of_lt, arith, lit<}
 use lib.Ieee.Nearest.{closest}
 use Rattle.numbers.specs.Root.{twice_root}
 use Rattle.numbers.proofs.Squares.{Near, near_unique, near_closest, square_fits, twice_lt}
@@ -40,12 +40,11 @@ pub returns-then-n-high : goal.returns-then-n-high
 returns-then-n-high c = between _ _ (omega arith) c.if-low-n.true c.if-n-high.true
 
 pub rounded-requires : goal.rounded-requires
-rounded-requires c =
-    (
-      omega (arith, c.twice_root.ensures, twice_lt c.args.n (2 ^ 27) c.requires),
-      lit< tt,
-      lit< tt,
-    )
+rounded-requires c = (
+  omega (arith, c.twice_root.ensures, twice_lt c.args.n (2 ^ 27) c.requires),
+  lit< tt,
+  lit< tt,
+)
 
 pub returns : goal.returns
 returns c = c.rounded.ensures ∙ ap (λ (y : ℕ). closest y (2 ^ 4)) c.twice_root.ensures

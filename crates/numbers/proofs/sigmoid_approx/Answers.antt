@@ -1,5 +1,4 @@
 -- `numbers::sigmoid_approx` meets its contract. Assumes nothing.
-use Rattle.std.proofs.Common.{rules}
 use Rattle.numbers.specs.Activations.{sigmoid_in}
 use Rattle.numbers.proofs.sigmoid_approx.Goals as goal
 

@@ -1,8 +1,8 @@
 -- `numbers::sqrt` meets its contract. Above zero the bits go by `proofs/Extraction.antt`, and the rest by
 -- `proofs/Special.antt`. Assumes nothing.
 use Rattle.std.proofs.Common.{lt_of_lt_of_le, arith, lit≤, rules}
-use Rattle.rules.proofs.Common.{ℕ, ◌+◌, ◌-◌, ◌*◌, ◌/◌, ◌^◌, ◌≤◌, not, ◌≡◌, sym, ap, subst, ◌∙◌, T, binary32, binary64}
-use Rattle.rules.proofs.Common.{is_nan}
+use Rattle.rules.proofs.Common.{ℕ, ◌+◌, ◌-◌, ◌*◌, ◌/◌, ◌^◌, ◌≤◌, true, not, ◌≡◌, sym, ap, subst, ◌∙◌, T, binary32, binary64}
+use Rattle.rules.proofs.Common.{Float, lt, is_nan}
 use lib.Ieee.{fits, div, of_bits, to_bits}
 use lib.Ieee.Fits.{and_i, fits_widens}
 use lib.Ieee.Positive.{above}
@@ -12,44 +12,34 @@ use Rattle.numbers.proofs.Extraction.{Extracts, extracted, infinite, scaled_lt, 
 use Rattle.numbers.proofs.sqrt.Goals as goal
 
 -- what owning an `f32` tells: the format holds it
-held : (c : goal.Start) → T (fits binary32 c.args.x)
-held c = subst T (sym c.well_formed.0.1) tt
+held : (x : Float) → fits binary32 x ≡ true → T (fits binary32 x)
+held x e = subst T (sym e) tt
 
-positive : (c : goal.Then-x) → T (above c.args.x)
+positive : (x : Float) → lt (of_bits binary32 0) x ≡ true → T (above x)
 unfolding of_bits
-positive c = above_zero c.args.x c.if-x.true
+positive x h = above_zero x h
 
--- the bits, from where they are known to be finite
-bits : (c : goal.Else-field-eq2047) → ℕ
-bits c = to_bits binary64 c.args.x
-
-found : (c : goal.Else-field-eq2047) → Extracts c.args.x (bits c)
-unfolding bits
-found c =
-    extracted c.args.x (held c) (positive c)
-    c.if-field-eq2047.false
-
-kept_is : (c : goal.After-root_digits-root) → c.root_digits-root.result ≡ kept (bits c)
-unfolding bits
-kept_is c = c.root_digits-root.ensures
+found : (x : Float) → fits binary32 x ≡ true → lt (of_bits binary32 0) x ≡ true
+    → (to_bits binary64 x / 2 ^ 52 ≡ 2047 → ⊥) → Extracts x (to_bits binary64 x)
+found x e h finite = extracted x (held x e) (positive x h) finite
 
 -- the pattern is at most the infinity's
-small : (c : goal.After-root_digits-root)
-    → (bits c / 2 ^ 52 - 771) / 2 * 2 ^ 23 + c.root_digits-root.result ≤ 255 * 2 ^ 23
-small c = omega (arith, (found c).field_le, kept_is c, kept_le (bits c))
+small : (x : Float) (r : ℕ) → Extracts x (to_bits binary64 x) → r ≡ kept (to_bits binary64 x)
+    → (to_bits binary64 x / 2 ^ 52 - 771) / 2 * 2 ^ 23 + r ≤ 255 * 2 ^ 23
+small x r f e = omega (arith, f.field_le, e, kept_le (to_bits binary64 x))
 
 pub float_to_float-bits : goal.float_to_float-bits
 float_to_float-bits c =
     let x = c.args.x in
-    and_i (fits binary64 x) (not (is_nan x)) (fits_widens x (held c))
-    (above_real x (positive c))
+    and_i (fits binary64 x) (not (is_nan x)) (fits_widens x (held c.args.x c.well_formed.0.1))
+    (above_real x (positive c.args.x c.if-x.true))
 
 pub float_to_bits-bits : goal.float_to_bits-bits
-float_to_bits-bits c = above_real c.args.x (positive c)
+float_to_bits-bits c = above_real c.args.x (positive c.args.x c.if-x.true)
 
 pub returns-then-field-eq2047 : goal.returns-then-field-eq2047
 returns-then-field-eq2047 c =
-    infinite c.args.x (held c) (positive c)
+    infinite c.args.x (held c.args.x c.well_formed.0.1) (positive c.args.x c.if-x.true)
     c.if-field-eq2047.true
 
 pub overflow_add-digits : goal.overflow_add-digits
@@ -59,38 +49,30 @@ pub overflow_sub-field : goal.overflow_sub-field
 overflow_sub-field c = search rules
 
 pub overflow_mul-digits : goal.overflow_mul-digits
-unfolding bits
-overflow_mul-digits c = record { fits = lt_of_lt_of_le (scaled_lt (bits c)) (lit≤ tt) }
+overflow_mul-digits c = record { fits = lt_of_lt_of_le (scaled_lt (to_bits binary64 c.args.x)) (lit≤ tt) }
 
 pub root_digits-root-requires : goal.root_digits-root-requires
-unfolding bits
-root_digits-root-requires c = scaled_lt (bits c)
+root_digits-root-requires c = scaled_lt (to_bits binary64 c.args.x)
 
 pub overflow_sub-result : goal.overflow_sub-result
-unfolding bits
-overflow_sub-result c = omega (arith, (found c).field_ge)
+overflow_sub-result c = omega (arith, (found c.args.x c.well_formed.0.1 c.if-x.true c.if-field-eq2047.false).field_ge)
 
 pub overflow_mul-result : goal.overflow_mul-result
-unfolding bits
-overflow_mul-result c = omega (arith, (found c).field_le)
+overflow_mul-result c = omega (arith, (found c.args.x c.well_formed.0.1 c.if-x.true c.if-field-eq2047.false).field_le)
 
 pub overflow_add-result : goal.overflow_add-result
-unfolding bits
-overflow_add-result c = omega (arith, small c)
+overflow_add-result c = omega (arith, small c.args.x _ (found c.args.x c.well_formed.0.1 c.if-x.true c.if-field-eq2047.false) c.root_digits-root.ensures)
 
 pub overflow_cast-result : goal.overflow_cast-result
-unfolding bits
-overflow_cast-result c = omega (arith, small c)
+overflow_cast-result c = omega (arith, small c.args.x _ (found c.args.x c.well_formed.0.1 c.if-x.true c.if-field-eq2047.false) c.root_digits-root.ensures)
 
 pub float_from_bits-result : goal.float_from_bits-result
-unfolding bits
-float_from_bits-result c = real_pattern binary32 _ (omega (arith, small c))
+float_from_bits-result c = real_pattern binary32 _ (omega (arith, small c.args.x _ (found c.args.x c.well_formed.0.1 c.if-x.true c.if-field-eq2047.false) c.root_digits-root.ensures))
 
 pub returns-then-x : goal.returns-then-x
-unfolding bits
 returns-then-x c =
-    let b = bits c in
-    ap (λ (y : ℕ). of_bits binary32 ((b / 2 ^ 52 - 771) / 2 * 2 ^ 23 + y)) (kept_is c) ∙ (found c).value
+    let b = to_bits binary64 c.args.x in
+    ap (λ (y : ℕ). of_bits binary32 ((b / 2 ^ 52 - 771) / 2 * 2 ^ 23 + y)) c.root_digits-root.ensures ∙ (found c.args.x c.well_formed.0.1 c.if-x.true c.if-field-eq2047.false).value
 
 pub returns-then-x-2 : goal.returns-then-x-2
 unfolding of_bits

@@ -1,5 +1,4 @@
 -- `numbers::tansig_in` meets its contract. Assumes nothing.
-use Rattle.std.proofs.Common.{rules}
 use Rattle.numbers.proofs.Floors.{inside_within, ends}
 use Rattle.numbers.proofs.tansig_in.Goals as goal
 

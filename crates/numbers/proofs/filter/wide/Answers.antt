@@ -1,6 +1,5 @@
 -- `filter::wide` meets its contract: owning an `f32` tells that the format holds it. Assumes nothing.
 use Rattle.rules.proofs.Common.{sym, subst, T}
-use Rattle.std.proofs.Common.{rules}
 use Rattle.numbers.proofs.filter.wide.Goals as goal
 
 pub returns : goal.returns

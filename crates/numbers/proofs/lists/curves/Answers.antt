@@ -1,8 +1,8 @@
 -- `numbers::lists::curves` meets its contract. Assumes nothing.
-use Rattle.rules.proofs.Common.{◌-◌, ◌≤◌, ◌≡◌, refl, ap, ◌∙◌, length, Float, nan}
+use Rattle.rules.proofs.Common.{refl, ap, ◌∙◌, Float, nan}
 use Rattle.std.proofs.Common.{arith}
 use Rattle.rules.specs.F32.{at}
-use Rattle.rules.proofs.Lists.{Filling, filling_more, filling_ahead, fills}
+use Rattle.rules.proofs.Lists.{filling_more, filling_ahead, fills}
 use Rattle.numbers.specs.Private.{followed}
 use Rattle.numbers.proofs.lists.curves.Goals as goal
 

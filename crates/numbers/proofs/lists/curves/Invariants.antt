@@ -1,8 +1,7 @@
 -- `numbers::lists::curves` meets its contract. Assumes nothing.
-use Rattle.rules.proofs.Common.{◌-◌, ◌≤◌, ◌≡◌, refl, ap, ◌∙◌, length, Float, nan}
-use Rattle.std.proofs.Common.{arith}
+use Rattle.rules.proofs.Common.{◌≤◌, ◌≡◌, length}
 use Rattle.rules.specs.F32.{at}
-use Rattle.rules.proofs.Lists.{Filling, filling_more, filling_ahead, fills}
+use Rattle.rules.proofs.Lists.{Filling}
 use Rattle.numbers.specs.Private.{followed}
 use Rattle.numbers.proofs.lists.curves.Given as goal
 

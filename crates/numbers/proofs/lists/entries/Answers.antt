@@ -1,9 +1,8 @@
 -- `numbers::lists::entries` meets its contract. Assumes nothing.
-use Rattle.rules.proofs.Common.{◌-◌, ◌≤◌, List, ◌≡◌, refl, ap, ◌∙◌, length, Float, nan}
+use Rattle.rules.proofs.Common.{List, refl, ap, ◌∙◌, length, Float, nan}
 use Rattle.std.proofs.Common.{arith}
 use Rattle.rules.specs.F32.{at}
-use Rattle.rules.proofs.Lists.{Filling, filling_begin, filling_ahead, fills, length_tab, get_d_tab}
-use Rattle.numbers.specs.Private.{entry_in}
+use Rattle.rules.proofs.Lists.{filling_begin, filling_ahead, fills, length_tab, get_d_tab}
 use Rattle.numbers.proofs.lists.entries.Goals as goal
 
 pub loop-j-init : goal.loop-j-init

@@ -1,8 +1,7 @@
 -- `numbers::lists::entries` meets its contract. Assumes nothing.
-use Rattle.rules.proofs.Common.{◌-◌, ◌≤◌, List, ◌≡◌, refl, ap, ◌∙◌, length, Float, nan}
-use Rattle.std.proofs.Common.{arith}
+use Rattle.rules.proofs.Common.{◌≤◌, ◌≡◌, length}
 use Rattle.rules.specs.F32.{at}
-use Rattle.rules.proofs.Lists.{Filling, filling_begin, filling_ahead, fills, length_tab, get_d_tab}
+use Rattle.rules.proofs.Lists.{Filling}
 use Rattle.numbers.specs.Private.{entry_in}
 use Rattle.numbers.proofs.lists.entries.Given as goal
 

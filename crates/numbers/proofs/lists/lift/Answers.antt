@@ -1,7 +1,5 @@
 -- `numbers::lists::lift` meets its contract. Assumes nothing.
-use Rattle.rules.proofs.Common.{◌-◌, ◌≤◌, ◌≡◌, length, nan}
-use Rattle.rules.specs.F32.{f32, ◌⊕◌, ◌⊗◌}
-use Rattle.rules.proofs.Lists.{Mapping, maps}
+use Rattle.rules.proofs.Lists.{maps}
 use Rattle.numbers.proofs.lists.lift.Goals as goal
 
 pub loop-j-init : goal.loop-j-init

@@ -1,7 +1,7 @@
 -- `numbers::lists::lift` meets its contract. Assumes nothing.
-use Rattle.rules.proofs.Common.{◌-◌, ◌≤◌, ◌≡◌, length, nan}
+use Rattle.rules.proofs.Common.{◌≤◌, ◌≡◌, length, nan}
 use Rattle.rules.specs.F32.{f32, ◌⊕◌, ◌⊗◌}
-use Rattle.rules.proofs.Lists.{Mapping, maps}
+use Rattle.rules.proofs.Lists.{Mapping}
 use Rattle.numbers.proofs.lists.lift.Given as goal
 
 abbrev pub invariant-loop-j : goal.invariant-loop-j

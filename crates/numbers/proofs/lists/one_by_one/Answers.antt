@@ -1,7 +1,5 @@
 -- `numbers::lists::one_by_one` meets its contract. Assumes nothing.
-use Rattle.rules.proofs.Common.{◌-◌, ◌≤◌, ◌≡◌, length, nan}
-use Rattle.rules.proofs.Lists.{Mapping, maps}
-use Rattle.numbers.specs.Activations.{tansig_in}
+use Rattle.rules.proofs.Lists.{maps}
 use Rattle.numbers.proofs.lists.one_by_one.Goals as goal
 
 pub loop-j-init : goal.loop-j-init

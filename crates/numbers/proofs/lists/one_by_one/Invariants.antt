@@ -1,6 +1,6 @@
 -- `numbers::lists::one_by_one` meets its contract. Assumes nothing.
-use Rattle.rules.proofs.Common.{◌-◌, ◌≤◌, ◌≡◌, length, nan}
-use Rattle.rules.proofs.Lists.{Mapping, maps}
+use Rattle.rules.proofs.Common.{◌≤◌, ◌≡◌, length, nan}
+use Rattle.rules.proofs.Lists.{Mapping}
 use Rattle.numbers.specs.Activations.{tansig_in}
 use Rattle.numbers.proofs.lists.one_by_one.Given as goal
 

@@ -1,8 +1,5 @@
 -- `numbers::lists::places` meets its contract. Assumes nothing.
-use Rattle.rules.proofs.Common.{◌-◌, ◌≤◌, ◌≡◌, length}
-use Rattle.rules.specs.F32.{at}
-use Rattle.rules.proofs.Lists.{Filling, fills}
-use Rattle.numbers.specs.Private.{place_in}
+use Rattle.rules.proofs.Lists.{fills}
 use Rattle.numbers.proofs.Floors.{inside_within}
 use Rattle.numbers.proofs.lists.places.Goals as goal
 

@@ -1,9 +1,8 @@
 -- `numbers::lists::places` meets its contract. Assumes nothing.
-use Rattle.rules.proofs.Common.{◌-◌, ◌≤◌, ◌≡◌, length}
+use Rattle.rules.proofs.Common.{◌≤◌, ◌≡◌, length}
 use Rattle.rules.specs.F32.{at}
-use Rattle.rules.proofs.Lists.{Filling, fills}
+use Rattle.rules.proofs.Lists.{Filling}
 use Rattle.numbers.specs.Private.{place_in}
-use Rattle.numbers.proofs.Floors.{inside_within}
 use Rattle.numbers.proofs.lists.places.Given as goal
 
 abbrev pub invariant-loop-j : goal.invariant-loop-j

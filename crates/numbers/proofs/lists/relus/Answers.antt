@@ -1,7 +1,5 @@
 -- `numbers::lists::relus` meets its contract. Assumes nothing.
-use Rattle.rules.proofs.Common.{◌-◌, ◌≤◌, ◌≡◌, length, nan}
-use Rattle.rules.proofs.Lists.{Mapping, maps}
-use Rattle.numbers.specs.Larger.{rectified}
+use Rattle.rules.proofs.Lists.{maps}
 use Rattle.numbers.proofs.lists.relus.Goals as goal
 
 pub loop-j-init : goal.loop-j-init

@@ -1,7 +1,6 @@
 -- `numbers::lists::sigmoids` meets its contract. Assumes nothing.
 use Rattle.rules.proofs.Common.{List, map, ◌≡◌, ap, ◌∙◌, Float}
 use mathlib.Core.List.{map-map}
-use Rattle.std.proofs.Common.{rules}
 use Rattle.rules.specs.F32.{f32, ◌⊕◌, ◌⊗◌}
 use Rattle.numbers.specs.Activations.{tansig_in, sigmoid_in}
 use Rattle.numbers.proofs.lists.sigmoids.Goals as goal

@@ -1,12 +1,11 @@
 -- `Biquad::filter` meets its contract. Assumes nothing.
-use Rattle.rules.proofs.Common.{◌-◌, ◌≤◌, ◌≡◌, refl, ap, ◌∙◌, length, length-set}
-use Rattle.std.proofs.Common.{arith, rules}
+use Rattle.rules.proofs.Common.{◌≡◌, refl, ap, ◌∙◌, length-set}
+use Rattle.std.proofs.Common.{arith}
 use Rattle.rules.specs.Leaf.{◌leaving◌, done, refused}
-use Rattle.rules.proofs.Loops.{turns}
 use Rattle.numbers.specs.declared.filter.Memory.{Memory}
 use Rattle.numbers.specs.Filter.{memory_after, outputs, answer}
 use Rattle.numbers.specs.Private.{memory_in}
-use Rattle.numbers.proofs.Outputs.{Filtering, filter_begin, filter_more, filter_ended}
+use Rattle.numbers.proofs.Outputs.{filter_begin, filter_more, filter_ended}
 use Rattle.numbers.proofs.filter.Biquad.filter.Goals as goal
 
 pub returns-then-output-input : goal.returns-then-output-input

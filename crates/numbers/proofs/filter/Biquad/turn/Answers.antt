@@ -1,5 +1,4 @@
 -- `Biquad::turn` meets its contract: `x as f64` is x, and the rest is the definition's. Assumes nothing.
-use Rattle.std.proofs.Common.{rules}
 use Rattle.rules.specs.Loop.{loop}
 use Rattle.numbers.specs.Filter.{filter_step, filtered}
 use Rattle.numbers.proofs.filter.Biquad.turn.Goals as goal
