@@ -1,5 +1,6 @@
 -- A model byte, moved to the middle of the bytes and back: computed for all 256. Assumes nothing.
-use Rattle.rules.proofs.Common.{ℕ, ◌+◌, ◌%◌, ◌^◌, ◌<◌, Bool, false, ◌≡◌, ap, eqb, ltb, T, pos}
+use Rattle.std.specs.Prelude.{◌+◌, ◌%◌, ◌^◌, ◌<◌, ◌≡◌}
+use Rattle.rules.proofs.Common.{ℕ, Bool, false, ap, eqb, ltb, T, pos}
 use lib.Dec.{ltb→lt, eqb→eq}
 use lib.IntN.{ℤ, negsuc, ◌-ℤ◌}
 use lib.Signed.{mag}

@@ -1,5 +1,6 @@
 -- A column, and two columns in one pass, which are the one and then the other. Assumes nothing.
-use Rattle.rules.proofs.Common.{ℕ, ◌+◌, ◌-◌, ◌*◌, ◌≤◌, ◌<◌, List, ◌≡◌, refl, sym, ap, ◌∙◌, length, get_or, drop, set}
+use Rattle.std.specs.Prelude.{◌+◌, ◌-◌, ◌*◌, ◌≤◌, ◌<◌, ◌≡◌}
+use Rattle.rules.proofs.Common.{ℕ, List, refl, sym, ap, ◌∙◌, length, get_or, drop, set}
 use Rattle.rules.proofs.Common.{Float, nan}
 use native.Mathlib.Nat.{le_refl, suc-mul}
 use native.Mathlib.Numerals.{add-one}

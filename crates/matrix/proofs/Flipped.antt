@@ -1,6 +1,7 @@
 -- A model byte as the last digits of a large number, its top bit turned over, and that number less what then stands for
 -- 0: computed for all 256. Assumes nothing.
-use Rattle.rules.proofs.Common.{ℕ, ◌*◌, ◌<◌, not, ◌≡◌, T, binary32}
+use Rattle.std.specs.Prelude.{◌*◌, ◌<◌, ◌≡◌}
+use Rattle.rules.proofs.Common.{ℕ, not, T, binary32}
 use lib.Bits.{bit_xor}
 use lib.Ieee.{of_bits, of_int, sub, add, neg, sum, round, units, odd, climb, span, size, nan_bits, of_fields}
 use Rattle.rules.specs.F32.{f32, ◌⊖◌}

@@ -1,5 +1,6 @@
 -- A multiply-add keeps its output's length. Assumes nothing.
-use Rattle.rules.proofs.Common.{ℕ, ◌+◌, ◌*◌, List, ◌≡◌, length, length-set, Float}
+use Rattle.std.specs.Prelude.{◌+◌, ◌*◌, ◌≡◌}
+use Rattle.rules.proofs.Common.{ℕ, List, length, length-set, Float}
 use Rattle.rules.specs.F32.{at, part}
 use Rattle.rules.proofs.Loops.{same_length}
 use Rattle.matrix.specs.Sums.{column_step, add_column, mul_step, mul_add}

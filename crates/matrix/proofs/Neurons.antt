@@ -1,5 +1,6 @@
 -- A multiply-add sum by sum: what its columns leave at a place, and what each of sixteen sums is. Assumes nothing.
-use Rattle.rules.proofs.Common.{ℕ, zero, suc, ◌+◌, ◌-◌, ◌*◌, ◌/◌, ◌%◌, ◌≤◌, ◌<◌, List, [], ◌∷◌, ◌++◌, ◌≡◌, refl, sym}
+use Rattle.std.specs.Prelude.{◌+◌, ◌-◌, ◌*◌, ◌/◌, ◌%◌, ◌≤◌, ◌<◌, ◌∷◌, ◌++◌, ◌≡◌}
+use Rattle.rules.proofs.Common.{ℕ, zero, suc, List, [], refl, sym}
 use Rattle.rules.proofs.Common.{ap, ◌∙◌, length, get_or, take}
 use Rattle.rules.proofs.Common.{drop, length-drop, Float, nan}
 use mathlib.Core.List.{append-nil, append_assoc}

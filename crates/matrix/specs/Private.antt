@@ -1,5 +1,6 @@
 -- For the contracts of private functions: the sums of a multiply-add one by one, and sixteen of them side by side.
-use Rattle.rules.specs.Common.{ℕ, ◌+◌, ◌*◌, ◌/◌, ◌%◌, ◌≤◌, List, ◌≡◌, length, set, Float}
+use Rattle.std.specs.Prelude.{◌+◌, ◌*◌, ◌/◌, ◌%◌, ◌≤◌, ◌≡◌}
+use Rattle.rules.specs.Common.{ℕ, List, length, set, Float}
 use Rattle.rules.specs.Loop.{loop}
 use Rattle.rules.specs.F32.{◌⊕◌, ◌⊗◌, at, nat_at}
 use Rattle.matrix.specs.Sums.{of_byte, MulAddFits}

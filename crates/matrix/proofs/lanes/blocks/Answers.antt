@@ -1,5 +1,6 @@
 -- `matrix::lanes::blocks` meets its contract. Assumes nothing.
-use Rattle.rules.proofs.Common.{ℕ, ◌+◌, ◌%◌, ◌≤◌, ◌<◌, ◌≡◌, refl, ap, ◌∙◌, length}
+use Rattle.std.specs.Prelude.{◌+◌, ◌%◌, ◌≤◌, ◌<◌, ◌≡◌}
+use Rattle.rules.proofs.Common.{ℕ, refl, ap, ◌∙◌, length}
 use native.Mathlib.Omega.{arith}
 use Rattle.rules.proofs.Lists.{tab_none, tab_done}
 use Rattle.matrix.specs.Private.{sixteen_sums}

@@ -1,5 +1,6 @@
 -- `matrix::lanes::ordered` meets its contract. Assumes nothing.
-use Rattle.rules.proofs.Common.{ℕ, ◌+◌, ◌%◌, ◌≤◌, ◌<◌, ◌≡◌, refl, ◌∙◌}
+use Rattle.std.specs.Prelude.{◌+◌, ◌%◌, ◌≤◌, ◌<◌, ◌≡◌}
+use Rattle.rules.proofs.Common.{ℕ, refl, ◌∙◌}
 use native.Mathlib.Omega.{arith}
 use Rattle.rules.proofs.Lists.{tab_none, tab_done}
 use Rattle.matrix.proofs.Neurons.{block_ordered}

@@ -1,5 +1,6 @@
 -- `matrix::lanes::sums` meets its contract. Assumes nothing.
-use Rattle.rules.proofs.Common.{◌≤◌, ◌≡◌, length}
+use Rattle.std.specs.Prelude.{◌≤◌, ◌≡◌}
+use Rattle.rules.proofs.Common.{length}
 use Rattle.matrix.specs.Private.{sixteen_sums}
 use Rattle.matrix.proofs.lanes.sums.Given as goal
 

@@ -1,5 +1,6 @@
 -- `matrix::sums::add_column` meets its contract. Assumes nothing.
-use Rattle.rules.proofs.Common.{◌≤◌, ◌≡◌, length}
+use Rattle.std.specs.Prelude.{◌≤◌, ◌≡◌}
+use Rattle.rules.proofs.Common.{length}
 use Rattle.rules.specs.Loop.{loop}
 use Rattle.matrix.specs.Sums.{column_step}
 use Rattle.matrix.proofs.sums.add_column.Given as goal

@@ -1,5 +1,6 @@
 -- `matrix::sums::add_two` meets its contract. Assumes nothing.
-use Rattle.rules.proofs.Common.{◌≤◌, ◌≡◌, length}
+use Rattle.std.specs.Prelude.{◌≤◌, ◌≡◌}
+use Rattle.rules.proofs.Common.{length}
 use Rattle.rules.specs.Loop.{loop}
 use Rattle.matrix.proofs.Columns.{two_step}
 use Rattle.matrix.proofs.sums.add_two.Given as goal

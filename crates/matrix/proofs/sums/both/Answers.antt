@@ -1,5 +1,6 @@
 -- `matrix::sums::both` meets its contract. Assumes nothing.
-use Rattle.rules.proofs.Common.{◌-◌, length}
+use Rattle.std.specs.Prelude.{◌-◌}
+use Rattle.rules.proofs.Common.{length}
 use native.Mathlib.Omega.{arith}
 use Rattle.matrix.proofs.Neurons.{rest_fits, both_parts, front_alone}
 use Rattle.matrix.proofs.sums.both.Goals as goal

@@ -1,6 +1,7 @@
 -- `matrix::sums::columns` meets its contract: two columns a turn, and one more where their number is odd.
 -- Assumes nothing.
-use Rattle.rules.proofs.Common.{ℕ, ◌+◌, ◌≡◌, ◌∙◌}
+use Rattle.std.specs.Prelude.{◌+◌, ◌≡◌}
+use Rattle.rules.proofs.Common.{ℕ, ◌∙◌}
 use native.Mathlib.Omega.{arith}
 use Rattle.rules.proofs.Loops.{turns, more, ended}
 use Rattle.rules.proofs.Numbers.{row_fits}

@@ -1,6 +1,7 @@
 -- `matrix::sums::columns` meets its contract: two columns a turn, and one more where their number is odd.
 -- Assumes nothing.
-use Rattle.rules.proofs.Common.{◌-◌, ◌≤◌, ◌≡◌, length}
+use Rattle.std.specs.Prelude.{◌-◌, ◌≤◌, ◌≡◌}
+use Rattle.rules.proofs.Common.{length}
 use Rattle.rules.specs.Loop.{loop}
 use Rattle.matrix.specs.Sums.{mul_step}
 use Rattle.matrix.proofs.sums.columns.Given as goal
