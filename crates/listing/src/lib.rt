@@ -1,63 +1,64 @@
 // Lists the layers of a model on standard output, or reports why the file is refused.
 #![tactic(auto)]
-use libc::{STDIN_FILENO, STDOUT_FILENO};
+
+use std::io;
+use std::io::Read;
 
 // Prints a text.
-fn text(t: &[u8]) {
-    io::write_all(STDOUT_FILENO, t);
+fn text(rt: &impl Print, t: &str) -> io::Result<()> {
+    rt.print(t)
 }
 
 // Prints a number.
-fn number(n: usize) {
-    io::print_decimal(STDOUT_FILENO, n as u64);
+fn number(rt: &impl Print, n: usize) -> io::Result<()> {
+    rt.print(n)
 }
 
 // Prints the line of a layer: layer, inputs, neurons, activation, offset, length.
-fn line(bytes: &[u8], layer: usize) {
+fn line(rt: &impl Print, bytes: &[u8], layer: usize) -> io::Result<()> {
     let row = model::line(bytes, layer);
-    number(row[0]);
+    number(rt, row[0])?;
     for i in 1..6 {
-        text(b" ");
-        number(row[i]);
+        text(rt, " ")?;
+        number(rt, row[i])?;
     }
-    text(b"\n");
+    text(rt, "\n")
 }
 
 // Prints the size of a model and its six layers.
-fn good(bytes: &[u8]) {
-    text(b"model ");
-    number(bytes.len());
-    text(b"\n");
+fn good(rt: &impl Print, bytes: &[u8]) -> io::Result<()> {
+    text(rt, "model ")?;
+    number(rt, bytes.len())?;
+    text(rt, "\n")?;
     for layer in 0..6 {
-        line(bytes, layer);
+        line(rt, bytes, layer)?;
     }
-    text(b"end\n");
+    text(rt, "end\n")
 }
 
 // Prints a refusal and its layer.
-fn refused(refusal: usize, layer: usize) {
-    text(b"refused ");
-    number(refusal);
-    text(b" ");
-    number(layer);
-    text(b"\n");
+fn refused(rt: &impl Print, refusal: usize, layer: usize) -> io::Result<()> {
+    text(rt, "refused ")?;
+    number(rt, refusal)?;
+    text(rt, " ")?;
+    number(rt, layer)?;
+    text(rt, "\n")
 }
 
 // Lists the model in these bytes.
-pub fn list(bytes: &[u8]) {
+pub fn list(rt: &impl Print, bytes: &[u8]) -> io::Result<()> {
     match model::read(bytes) {
-        model::Reading::Good(_) => good(bytes),
-        model::Reading::Refused(refusal, layer) => refused(refusal as usize, layer as usize),
+        model::Reading::Good(_) => good(rt, bytes),
+        model::Reading::Refused(refusal, layer) => refused(rt, refusal as usize, layer as usize),
     }
 }
 
 // Lists the model on standard input, of at most 65,536 bytes. It may arrive in pieces.
-pub fn list_input() {
-    let mut space = [0u8; 65537];
-    let n = io::read_full(STDIN_FILENO, &mut space);
-    if 65536 < n {
-        text(b"too long\n");
-        return;
+pub fn list_input(rt: &(impl Input + Print + AllocGlobal)) -> io::Result<()> {
+    let mut bytes = Vec::new(rt.alloc());
+    rt.reader().take(65537).read_to_end(&mut bytes)?;
+    if 65536 < bytes.len() {
+        return text(rt, "too long\n");
     }
-    list(&space[..n]);
+    list(rt, &bytes[..])
 }

@@ -1,5 +1,8 @@
 // Lists the model on standard input.
 #![tactic(auto)]
-fn main() {
-    listing::list_input();
+
+use std::io;
+
+fn main(rt: HostRuntime) -> io::Result<()> {
+    listing::list_input(&rt)
 }

@@ -1,9 +1,11 @@
 // Lays out two models without weights and lists them: the usual hidden counts 24, 24, 48 and 96, and those of the
 // largest file that reads, 84, 1, 84 and 127. Both are longer than standard input may be.
 #![tactic(auto)]
+
 ghost use Rattle.std.specs.Prelude.{◌<◌};
 
 use model::{Cursor, Kind, Step};
+use std::io;
 
 fn header(space: &mut [u8], at: usize, inputs: u8, neurons: u8, activation: u8) {
     if space.len() < 3 {
@@ -54,25 +56,25 @@ fn back(space: &mut [u8], from: Cursor, b: u8, c: u8, d: u8)
     layer(space, at, Kind::Dense, b, 1, 1);
 }
 
-fn show(space: &mut [u8], a: u8, b: u8, c: u8, d: u8)
+fn show(rt: &impl Print, space: &mut [u8], a: u8, b: u8, c: u8, d: u8) -> io::Result<()>
     requires { (a < 100) × (b < 100) × (c < 100) }
 {
     let at = front(space, a, b, c);
     back(space, at, b, c, d);
-    listing::list(&space[..]);
+    listing::list(rt, &space[..])
 }
 
-fn usual() {
+fn usual(rt: &impl Print) -> io::Result<()> {
     let mut space = [0u8; 87521];
-    show(&mut space, 24, 24, 48, 96);
+    show(rt, &mut space, 24, 24, 48, 96)
 }
 
-fn largest() {
+fn largest(rt: &impl Print) -> io::Result<()> {
     let mut space = [0u8; 157285];
-    show(&mut space, 84, 1, 84, 127);
+    show(rt, &mut space, 84, 1, 84, 127)
 }
 
-fn main() {
-    usual();
-    largest();
+fn main(rt: HostRuntime) -> io::Result<()> {
+    usual(&rt)?;
+    largest(&rt)
 }

@@ -2,10 +2,12 @@
 // The list comes on standard input; oracle/src/bin/vectors.rs makes it and describes its form. All NaNs count as equal,
 // and so do both zeros.
 #![tactic(auto)]
+
 ghost use Rattle.std.specs.Prelude.{◌≡◌, ◌+◌, ◌<◌, ◌≤◌, ◌^◌, length};
 
 use export::{of_bands, of_pitch};
-use libc::{STDIN_FILENO, STDOUT_FILENO};
+use std::io;
+use std::io::Read;
 
 // The longest list of a record, in numbers.
 const ROOM: usize = 2048;
@@ -263,17 +265,14 @@ fn replay_one(bytes: &[u8], at: usize) -> bool
 }
 
 // Prints how many calls there were and how many agree.
-fn tell(calls: u64, agree: u64) {
-    io::print_decimal(STDOUT_FILENO, calls);
-    io::write_all(STDOUT_FILENO, b" calls replayed, ");
-    io::print_decimal(STDOUT_FILENO, agree);
-    io::write_all(STDOUT_FILENO, b" agree\n");
+fn tell(rt: &impl Print, calls: u64, agree: u64) -> io::Result<()> {
+    println!(rt; "{calls} calls replayed, {agree} agree")
 }
 
 // Replays the whole list.
-fn replay(bytes: &[u8]) {
+fn replay(rt: &impl Print, bytes: &[u8]) -> io::Result<()> {
     if SPACE < bytes.len() {
-        return;
+        return Ok(());
     }
     let mut at = 0;
     let mut calls: u64 = 0;
@@ -285,11 +284,11 @@ fn replay(bytes: &[u8]) {
         calls += 1;
         at = behind(bytes, behind(bytes, at + 1));
     }
-    tell(calls, agree);
+    tell(rt, calls, agree)
 }
 
-fn main() {
-    let mut space = [0u8; SPACE];
-    let n = io::read_full(STDIN_FILENO, &mut space);
-    replay(&space[0..n]);
+fn main(rt: HostRuntime) -> io::Result<()> {
+    let mut bytes = Vec::new(rt.alloc());
+    rt.reader().take(SPACE as u64).read_to_end(&mut bytes)?;
+    replay(&rt, &bytes[..])
 }
