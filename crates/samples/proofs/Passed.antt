@@ -1,5 +1,5 @@
 -- The loop over the samples: they are good exactly if those that it has passed are and the rest is. Assumes nothing.
-use Rattle.rules.proofs.Common.{ℕ, suc, ◌+◌, ◌≤◌, ◌<◌, Bool, true, false, ◌&&◌, List, ◌∷◌, ◌≡◌, refl, sym, ap, ◌∙◌}
+use Rattle.rules.proofs.Common.{ℕ, suc, ◌+◌, ◌≤◌, ◌<◌, Bool, true, false, ◌&&◌, List, ◌≡◌, refl, sym, ap, ◌∙◌}
 use Rattle.rules.proofs.Common.{length, drop, Float, nan}
 use native.Mathlib.Numerals.{add-one}
 use lib.ListN.{drop_of_length-le}

@@ -1,5 +1,6 @@
 // Which samples a call accepts (request 05): -32768 to 32767.
 #![tactic(auto)]
+
 ghost use Rattle.std.specs.Prelude.{◌≡◌};
 ghost use Rattle.samples.specs.Samples.{good};
 

@@ -1,9 +1,6 @@
 -- `samples::all_good` meets its contract. Assumes nothing.
-use Rattle.rules.proofs.Common.{◌-◌, ◌≤◌, ◌&&◌, ◌≡◌, refl, length, drop}
-use native.Mathlib.Omega.{arith}
-use Rattle.rules.proofs.Loops.{turns}
+use Rattle.rules.proofs.Common.{◌≤◌, ◌&&◌, ◌≡◌, length, drop}
 use Rattle.samples.specs.Samples.{good}
-use Rattle.samples.proofs.Passed.{one_more_lem, all_passed}
 use Rattle.samples.proofs.all_good.Given as goal
 
 abbrev pub invariant-loop-i : goal.invariant-loop-i
