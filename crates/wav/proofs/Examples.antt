@@ -10,10 +10,10 @@ use Rattle.wav.specs.Chunks.{from_two, front_of, tag_in, format_of, format_fault
 use Rattle.wav.specs.Head.{head_of}
 use Rattle.wav.specs.Laws.{follow}
 use Rattle.sides.specs.declared.Side.TheVariants.{Right}
-use Rattle.wav.specs.declared.seal.Word.TheVariants.{Begins, Ends}
+use Rattle.wav.specs.declared.seal.Word.TheVariants.{Ends}
 use Rattle.wav.specs.declared.seal.Seal.{Seal}
 use Rattle.wav.specs.declared.seal.Reading.TheVariants as reading
-use Rattle.wav.specs.declared.chunks.Step.TheVariants.{Audio, On, Refused}
+use Rattle.wav.specs.declared.chunks.Step.TheVariants.{Audio, Refused}
 
 -- the right side, 960 bytes of audio
 abbrev right : Seal

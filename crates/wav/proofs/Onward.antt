@@ -1,11 +1,11 @@
 -- A reading moves on. Assumes nothing.
-use Rattle.rules.proofs.Common.{ℕ, ◌+◌, ◌%◌, ◌≤◌, Bool, true, false, cond, not, ◌&&◌, ◌||◌, List, [], ◌∷◌, ◌≡◌, refl}
-use Rattle.rules.proofs.Common.{ap, ◌∙◌, eqb, ltb, length, drop}
+use Rattle.rules.proofs.Common.{ℕ, ◌+◌, ◌≤◌, Bool, true, false, cond, not, ◌&&◌, ◌||◌, List, ◌≡◌, refl}
+use Rattle.rules.proofs.Common.{eqb, ltb, length, drop}
 use native.Mathlib.Omega.{arith}
 use borrow.Author.Tests.{eqb-true}
 use Rattle.rules.proofs.Refusals.{by_each}
 use Rattle.sheet.specs.End.{from_four}
-use Rattle.wav.specs.Chunks.{RIFF, WAVE, FMT, DATA, front_of, past_chunk, format_faults, formatted, chunk_of, step_of}
+use Rattle.wav.specs.Chunks.{RIFF, WAVE, FMT, DATA, front_of, format_faults, formatted, chunk_of, step_of}
 use Rattle.wav.specs.Laws.{Onward}
 use Rattle.wav.specs.declared.chunks.Head.{Head}
 use Rattle.wav.specs.declared.chunks.Step.{Step}

@@ -1,18 +1,18 @@
 -- What is written reads back as the seal that it was, and with the other side's letters in their place as none.
 -- Assumes nothing.
-use Rattle.rules.proofs.Common.{ℕ, ◌+◌, ◌*◌, ◌/◌, ◌%◌, ◌^◌, ◌≤◌, ◌<◌, Bool, true, false, cond, List, [], ◌∷◌, ◌++◌, ◌≡◌}
+use Rattle.rules.proofs.Common.{ℕ, ◌/◌, ◌^◌, ◌≤◌, ◌<◌, Bool, true, false, List, [], ◌∷◌, ◌++◌, ◌≡◌}
 use Rattle.rules.proofs.Common.{refl, sym}
-use Rattle.rules.proofs.Common.{ap, ◌∙◌, eqb, ltb, length, take, drop, length-append}
+use Rattle.rules.proofs.Common.{ap, ◌∙◌, eqb, length, take, drop, length-append}
 use mathlib.Core.List.{append_assoc}
 use native.Mathlib.Omega.{arith}
-use borrow.Author.Tests.{le-ltb, eq-eqb, ne_eqb, eqb-true}
+use borrow.Author.Tests.{eq-eqb}
 use lib.Seq.{take_at, drop_at}
 use Rattle.rules.specs.Leaf.{◌leaving◌}
 use Rattle.rules.specs.Loop.{loop}
 use Rattle.rules.specs.Tab.{tab}
 use Rattle.checksum.specs.Checksum.{table, crc, crc32}
 use Rattle.checksum.proofs.Apart.{small, same_end}
-use Rattle.sides.specs.Sides.{LEFT, RGHT, number_of, letters_of, of_number, of_letters}
+use Rattle.sides.specs.Sides.{letters_of, of_number, of_letters}
 use Rattle.sides.proofs.Back.{letters_back, number_only}
 use Rattle.sides.specs.declared.Side.{Side}
 use Rattle.sides.specs.declared.Side.TheVariants.{Left, Right}
@@ -20,15 +20,14 @@ use Rattle.sides.specs.declared.Meant.{Meant}
 use Rattle.sides.specs.declared.Meant.TheVariants.{Means, Nothing}
 use Rattle.sheet.specs.Sheet.{four}
 use Rattle.sheet.specs.End.{from_four}
-use Rattle.sheet.proofs.Digits.{digits, four_read}
-use Rattle.wav.specs.Seal.{TUPB, TUPP, word_of, said, seal_of, name, long, seal_faults, laid_for, seal_written}
+use Rattle.sheet.proofs.Digits.{four_read}
+use Rattle.wav.specs.Seal.{TUPB, TUPP, word_of, said, seal_of, name, long, laid_for, seal_written}
 use Rattle.wav.specs.Seal.{seal_read, seal_summary}
-use Rattle.wav.specs.Laws.{SealFits, SealBack, OneSeal, other_side, renamed, OtherName, SealCalls, other_word}
+use Rattle.wav.specs.Laws.{SealFits, SealBack, OneSeal, other_side, renamed, OtherName, SealCalls}
 use Rattle.wav.specs.Laws.{OtherWord}
 use Rattle.wav.specs.declared.seal.Word.{Word}
 use Rattle.wav.specs.declared.seal.Word.TheVariants.{Begins, Ends}
 use Rattle.wav.specs.declared.seal.Seal.{Seal}
-use Rattle.wav.specs.declared.seal.Reading.{Reading}
 use Rattle.wav.specs.declared.seal.Reading.TheVariants.{Whole, Refused}
 use Rattle.wav.proofs.Seals.{at_51', at_52, at_whole, length_said}
 

@@ -3,7 +3,7 @@ use Rattle.rules.proofs.Common.{ℕ, ◌+◌, ◌*◌, ◌/◌, ◌≤◌, ◌<�
 use Prim.Native.Nat.{min}
 use borrow.Author.Tests.{lt-ltb, le-ltb, eq-eqb, ne_eqb}
 use Rattle.sheet.specs.End.{from_four}
-use Rattle.wav.specs.Chunks.{RIFF, WAVE, FMT, DATA, from_two, front_of, past_chunk, tag_in, format_of, format_in}
+use Rattle.wav.specs.Chunks.{RIFF, WAVE, FMT, DATA, from_two, front_of, past_chunk, format_in}
 use Rattle.wav.specs.Chunks.{channels_in, format_faults, formatted, chunk_of}
 use Rattle.wav.specs.declared.chunks.Head.{Head}
 use Rattle.wav.specs.declared.chunks.Step.TheVariants.{Audio, On, Refused}

@@ -1,6 +1,6 @@
 -- The head of a WAV file, read chunk by chunk: what the next step of a reading finds in the file's bytes from
 -- a place on. Four letters are read as a number, least significant byte first.
-use Rattle.rules.specs.Common.{ℕ, ◌+◌, ◌*◌, ◌/◌, ◌%◌, min, Bool, cond, not, ◌&&◌, ◌||◌, List, [], ◌∷◌, eqb, ltb, length}
+use Rattle.rules.specs.Common.{ℕ, ◌+◌, ◌*◌, ◌/◌, ◌%◌, min, cond, not, ◌&&◌, ◌||◌, List, [], ◌∷◌, eqb, ltb, length}
 use Rattle.rules.specs.Common.{get_or, drop}
 use Rattle.rules.specs.Leaf.{◌leaving◌}
 use Rattle.rules.specs.Refusals.{Row, ◌when◌, refusing}

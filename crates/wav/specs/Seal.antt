@@ -1,6 +1,6 @@
 -- The two seals of a recording: as data, as 24 bytes, and as they are read. Four letters are read as a
 -- number, least significant byte first.
-use Rattle.rules.specs.Common.{ℕ, ◌+◌, ◌*◌, ◌/◌, Bool, not, ◌||◌, List, [], ◌∷◌, ◌++◌, eqb, ltb, length, take, drop}
+use Rattle.rules.specs.Common.{ℕ, ◌+◌, ◌*◌, ◌/◌, not, ◌||◌, List, [], ◌∷◌, ◌++◌, eqb, ltb, length, take, drop}
 use Rattle.rules.specs.Leaf.{◌leaving◌}
 use Rattle.rules.specs.Refusals.{Row, ◌when◌, refusing}
 use Rattle.checksum.specs.Checksum.{crc32}
