@@ -82,7 +82,7 @@ fn any_bin(c: &[f32; 960], z: &[f32; 960], k: usize) -> Cx
 // Stores four bins.
 fn four_bins(out: &mut [f32], c: &[f32; 960], z: &[f32; 960], k: usize)
     requires filled { Filled 961 (number_out single (of c.now) z.now) (2 * k - 1) out.old }
-    requires k_nonzero { (0 < k) × (k + 4 ≤ 480) }
+    requires k_range { (0 < k) × (k + 4 ≤ 480) }
     ensures { Filled 961 (number_out single (of c.now) z.now) (2 * k + 7)
         out.new }
 {

@@ -2,6 +2,7 @@
 // numbers in stages (stages), with the one table of 960 cosines. Without rounding they would be the plain sums of
 // `transforms`. Both refuse other lengths than those of their arrays with 5, and then change nothing.
 #![tactic(auto)]
+
 ghost use Rattle.std.specs.Prelude.{◌≡◌, length};
 ghost use Rattle.rules.specs.Leaf.{Leaf, ◌leaving◌};
 ghost use Rattle.transforms.specs.Transform.{ForwardFits, InverseFits};
