@@ -1,9 +1,8 @@
 -- The 22 sums of the DCT, row by row: none has a product yet, each gets its next one, and all are scaled.
 -- Assumes nothing.
-use Rattle.rules.proofs.Common.{ℕ, ◌+◌, ◌*◌, ◌<◌, List, ◌≡◌, refl, sym, ap, ◌∙◌, length, Float, nan}
-use native.Mathlib.Omega.{arith}
+use Rattle.rules.proofs.Common.{ℕ, ◌+◌, ◌<◌, List, ◌≡◌, sym, ap, ◌∙◌, length, Float, nan}
 use Rattle.rules.specs.Loop.{loop}
-use Rattle.rules.specs.F32.{◌⊕◌, ◌⊗◌, at, f32, zeros}
+use Rattle.rules.specs.F32.{at, f32, zeros}
 use Rattle.rules.specs.Tab.{tab}
 use Rattle.rules.proofs.Loops.{more}
 use Rattle.rules.proofs.Lists.{length_tab, get_d_tab, tab_const, tab_same}

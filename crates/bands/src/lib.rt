@@ -2,6 +2,7 @@
 // A spectrum is 961 numbers: bin 0, which is real, then the real and the imaginary part of bins 1 to 480.
 // Each leaf refuses lengths other than its arrays' with 5, and then changes nothing.
 #![tactic(auto)]
+
 ghost use Rattle.std.specs.Prelude.{◌≡◌, ◌+◌, ◌-◌, ◌≤◌, ◌<◌, length};
 ghost use Rattle.rules.specs.F32.{at, zeros};
 ghost use Rattle.rules.specs.Leaf.{Leaf, ◌leaving◌};
