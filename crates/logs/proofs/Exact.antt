@@ -7,7 +7,7 @@ use native.Mathlib.Nat.{le_trans, lt_of_le_of_lt, lt_of_lt_of_le, mul-le-mul, mu
 use native.Mathlib.Nat.{eq_of_mul-eq-mul_right}
 use native.Mathlib.Omega.{arith}
 use lib.Dec.{lit<, lit≤}
-use lib.IntN.{ℤ, nat_abs, ◌-ℤ◌, ◌*ℤ◌}
+use lib.IntN.{nat_abs, ◌-ℤ◌, ◌*ℤ◌}
 use lib.Pow.{pow-add, pow_pos, pow_mono, shl_lt}
 use lib.Ieee.{size, fits, of_int, of_bits, to_bits}
 use lib.Ieee.Back.{round_whole}

@@ -4,6 +4,7 @@
 // in plain f64. What the two large additions lose is kept and added at the end. The last step corrects the one f32 at
 // which rounding twice would show.
 #![tactic(auto)]
+
 ghost use Rattle.std.specs.Prelude.{◌≡◌, length};
 ghost use Rattle.rules.specs.Leaf.{Leaf, ◌leaving◌};
 ghost use Rattle.rules.specs.F64.{◌-₆₄◌};
