@@ -19,16 +19,17 @@ fn write_script(path: &Path, text: &str) {
     fs::set_permissions(path, fs::Permissions::from_mode(0o755)).unwrap();
 }
 
-/// A repository with a crate in it, and in `bin` all that the scripts call: an `rt` and a cargo that note that they
+/// A repository with two crates in it, and in `bin` all that the scripts call: an `rt` and a cargo that note that they
 /// were called, and make an archive of what the crate holds, and a program that echoes its words.
 fn repository(name: &str) -> PathBuf {
     let path = folder(&format!("box-{name}"));
-    for folder in ["bin", "tools", "crates/export/src", "crates/export/must-fail", "kit/bin", "home"] {
+    let crates = ["crates/export/src", "crates/export/must-fail", "crates/export_c/src"];
+    for folder in ["bin", "tools", "kit/bin", "home"].iter().chain(&crates) {
         fs::create_dir_all(path.join(folder)).unwrap();
     }
     fs::copy(root().join("box"), path.join("box")).unwrap();
     fs::copy(root().join("tools/library.sh"), path.join("tools/library.sh")).unwrap();
-    fs::write(path.join("crates.txt"), "export:\n").unwrap();
+    fs::write(path.join("crates.txt"), "export:\nexport_c staticlib: export\n").unwrap();
     fs::write(path.join("crates/export/src/lib.rt"), "one").unwrap();
     fs::write(path.join("kit/KIT-ID"), "kit 9\n").unwrap();
     for tool in [
@@ -54,9 +55,12 @@ fn repository(name: &str) -> PathBuf {
         let place = std::env::split_paths(&places).map(|place| place.join(tool)).find(|place| place.exists());
         symlink(place.unwrap_or_else(|| panic!("{tool}")), path.join("bin").join(tool)).unwrap();
     }
-    let rt = "echo \"$*\" >>rt-was-called; echo \"rt: export proved (1 s)\"\n\
-              if [ \"$1\" = staticlib ]; then mkdir -p target/staticlib; cp crates/export/src/lib.rt \
-              target/staticlib/libexport.a; fi\n";
+    // it runs in the folder of export_c
+    let rt = "echo \"$*\" >>../../rt-was-called\n\
+              for name in export export_c; do\n\
+              echo \"crate $name: modules loaded=0 checked=1\"; echo \"logic=proved functions=1\"\n\
+              done\n\
+              if [ \"$1\" = lib ]; then mkdir -p out; cp ../export/src/lib.rt out/libexport_c.a; fi\n";
     write_script(&path.join("kit/bin/rt"), rt);
     symlink("../kit/bin/rt", path.join("bin/rt")).unwrap();
     let cargo = "echo \"$*\" >cargo-was-called; echo \"  Compiling much\"; echo \"  Finished\" >&2; [ ! -e broken ] \
@@ -107,10 +111,11 @@ fn calls(path: &Path) -> usize {
 fn what_is_proved_is_asked_by_what_the_crates_hold() {
     let path = repository("proved");
     let first = run(&path, &["side", "a b"]);
-    assert_eq!((first.status, calls(&path)), (Some(0), 2), "{}", first.why);
+    assert_eq!((first.status, calls(&path)), (Some(0), 1), "{}", first.why);
     // what the program says stands alone; of cargo nothing is shown
     assert_eq!(first.said, format!("{}: side a b\n", path.canonicalize().unwrap().display()));
-    assert!(first.why.contains("1 of 1: export proved") && !first.why.contains("Compiling"), "{}", first.why);
+    let told = first.why.contains("1 of at most 2: export is proved") && first.why.contains(": export_c is proved");
+    assert!(told && !first.why.contains("Compiling"), "{}", first.why);
     let quiet = |why: &str| {
         let again = run(&path, &["side"]);
         assert_eq!((again.status, calls(&path), &*again.why), (Some(0), 0, ""), "{why}");
@@ -122,23 +127,22 @@ fn what_is_proved_is_asked_by_what_the_crates_hold() {
     quiet("a file was touched");
     fs::write(path.join("crates/export/must-fail/one.edit"), "no part of it").unwrap();
     quiet("an edit that must fail");
+    fs::write(path.join("crates/export/out.txt"), "one").unwrap();
+    assert_eq!((run(&path, &["side"]).status, calls(&path)), (Some(0), 1));
+    fs::create_dir(path.join("crates/export/out")).unwrap();
+    fs::write(path.join("crates/export/out/kept"), "no part of it").unwrap();
+    quiet("what rt keeps");
     // what has changed is proved, and with an older time too
     fs::write(&lib, "two").unwrap();
     File::options().write(true).open(&lib).unwrap().set_modified(SystemTime::UNIX_EPOCH).unwrap();
-    assert_eq!((run(&path, &["side"]).status, calls(&path)), (Some(0), 2));
+    assert_eq!((run(&path, &["side"]).status, calls(&path)), (Some(0), 1));
     quiet("it is proved");
-    // an archive that is not the noted one, and older than the crates
+    // an archive that is not the noted one
     fs::write(path.join("target/staticlib/libexport.a"), "another").unwrap();
-    File::options().write(true).open(&lib).unwrap().set_modified(later).unwrap();
-    assert_eq!((run(&path, &["side"]).status, calls(&path)), (Some(0), 2));
-    // one that rt wrote by hand is noted
+    assert_eq!((run(&path, &["side"]).status, calls(&path)), (Some(0), 1));
+    // and one that has no note
     fs::remove_file(path.join("target/staticlib/made-of")).unwrap();
-    File::options().write(true).open(&lib).unwrap().set_modified(SystemTime::UNIX_EPOCH).unwrap();
-    for older in ["crates", "crates/export", "crates/export/src", "crates/export/must-fail", "crates.txt"] {
-        File::open(path.join(older)).unwrap().set_modified(SystemTime::UNIX_EPOCH).unwrap();
-    }
-    File::open(path.join("crates/export/must-fail/one.edit")).unwrap().set_modified(SystemTime::UNIX_EPOCH).unwrap();
-    quiet("made by hand");
+    assert_eq!((run(&path, &["side"]).status, calls(&path)), (Some(0), 1));
     assert!(fs::read_to_string(path.join("target/staticlib/made-of")).unwrap().contains("kit 9\n"));
 }
 
@@ -148,7 +152,7 @@ fn what_is_missing_is_named() {
     fs::rename(path.join("bin/rt"), path.join("rt-aside")).unwrap();
     let without = run(&path, &["side"]);
     assert_eq!((without.status, &*without.said), (Some(1), ""));
-    assert!(without.why.starts_with("rt is missing") && without.why.contains("rattle-kit-5b"), "{}", without.why);
+    assert!(without.why.starts_with("rt is missing") && without.why.contains("rattle-kit-13f"), "{}", without.why);
     fs::rename(path.join("rt-aside"), path.join("bin/rt")).unwrap();
     assert_eq!(run(&path, &["side"]).status, Some(0));
     // once the library is proved, rt is not needed
