@@ -113,10 +113,10 @@ fn constants(ln_2: Fine, ln_10: Fine) -> Vec<(&'static str, &'static str, f64)> 
     // of ln(1 + r) / ln(10), the numbers at r^k
     let series = |k: u64| nearest(ratio([0, 0, 0, 1], times(ln_10, k))) * if k % 2 == 0 { -1.0 } else { 1.0 };
     vec![
-        ("TWO_HIGH", "twoHigh", two_high),
-        ("TWO_LOW", "twoLow", two_low),
-        ("SLOPE_HIGH", "slopeHigh", slope_high),
-        ("SLOPE_LOW", "slopeLow", slope_low),
+        ("TWO_HIGH", "two_high", two_high),
+        ("TWO_LOW", "two_low", two_low),
+        ("SLOPE_HIGH", "slope_high", slope_high),
+        ("SLOPE_LOW", "slope_low", slope_low),
         ("SERIES_2", "series2", series(2)),
         ("SERIES_3", "series3", series(3)),
         ("SERIES_4", "series4", series(4)),
@@ -139,12 +139,12 @@ fn logarithm_tables() {
     let code = format!(
         "// The constants of `log10`, made by tools/make_tables.sh. A high part is a whole number of 2^-40, and
 // the low part is what it lacks.
-ghost use mathlib.Core.Path.{{_≡_}};
-ghost use Prim.Native.Nat.{{_≤_}};
-ghost use Rattle·logs·specs.specs.Tables.{{rowAt}};
+ghost use Rattle.std.specs.Prelude.{{◌≡◌, ◌≤◌}};
+ghost use Rattle.logs.specs.Tables.{{row_at}};
 
 // log10(2), 1 / ln(10), and the numbers of the series of log10(1 + r) from r^2 on.
 {named}// A centre near 32 / (32 + i), of 20 binary digits, and the two parts of minus its logarithm.
+#[derive(Drop)]
 pub struct Row {{
     // The centre: what 1 / m is near to.
     pub centre: f64,
@@ -156,8 +156,8 @@ pub struct Row {{
 
 // One of 33: a match is compiled to a table that is never filled.
 pub(crate) fn row_at(i: u64) -> Row
-    requires {{ ⌜ i ≤ 32 ⌝ }}
-    ensures {{ λ r. ⌜ r ≡ rowAt i ⌝ }}
+    requires {{ i ≤ 32 }}
+    ensures {{ result ≡ row_at i }}
 {{
     match i {{
 {arms}        _ => {}    }}
@@ -172,22 +172,22 @@ pub(crate) fn row_at(i: u64) -> Row
     let named: String = constants.iter().map(definition).collect();
     let text = format!(
         "-- The constants of `log10`, made by tools/make_tables.sh: by their bit patterns.
-use Rattle·rules.specs.Common.{{ℕ, _+_, _*_, List, [], _∷_, map, Float, ofBits}}
-use Rattle·rules.specs.F32.{{at}}
-use Rattle·rules.specs.F64.{{f64}}
-use Rattle·logs·specs.specs.declared.table.Row.{{Row}}
+use Rattle.rules.specs.Common.{{ℕ, ◌+◌, ◌*◌, List, [], ◌∷◌, map, Float, of_bits}}
+use Rattle.rules.specs.F32.{{at}}
+use Rattle.rules.specs.F64.{{f64}}
+use Rattle.logs.specs.declared.table.Row.{{Row}}
 
 -- 33 rows: a centre near 32 / (32 + i), of 20 binary digits, and the high and the low part of minus its logarithm
-unfoldable pub rowBits : List ℕ
-rowBits =
+unfoldable pub row_bits : List ℕ
+row_bits =
 {} []
 
 unfoldable pub rows : List Float
-unfolding rowBits ofBits
-rows = map f64 rowBits
+unfolding row_bits of_bits
+rows = map f64 row_bits
 
-abbrev pub rowAt : ℕ → Row
-rowAt i = record {{ centre = at rows (3 * i); high = at rows (3 * i + 1); low = at rows (3 * i + 2) }}
+abbrev pub row_at : ℕ → Row
+row_at i = record {{ centre = at rows (3 * i); high = at rows (3 * i + 1); low = at rows (3 * i + 2) }}
 
 -- log10(2), 1 / ln(10), and the numbers of the series of log10(1 + r) from r^2 on
 {named}",

@@ -84,7 +84,7 @@ fn module(name: &str, wrong: &mut Wrong) -> Module {
     let file = format!("crates/export/src/{name}.rt");
     let text = read(&file);
     let lines: Vec<&str> = text.lines().collect();
-    let exported = (0..lines.len()).filter(|at| lines[*at] == "#[no_mangle]");
+    let exported = (0..lines.len()).filter(|at| lines[*at] == "#[unsafe(no_mangle)]");
     let functions = exported.filter_map(|at| {
         let mut comment = words(lines[..at].iter().rev().copied());
         comment.reverse();
@@ -143,7 +143,7 @@ fn explained(module: &Module, wrong: &mut Wrong) {
     for function in &module.functions {
         let name = &function.name;
         if function.comment.is_empty() {
-            wrong.note(&module.file, format!("{name}: no comment in front of #[no_mangle] says what it does"));
+            wrong.note(&module.file, format!("{name}: no comment in front of #[unsafe(no_mangle)] says what it does"));
             continue;
         }
         if function.comment.iter().chain(&module.comment).any(|line| line.contains("*/")) {

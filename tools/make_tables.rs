@@ -8,7 +8,7 @@ fn main() {
     let what = "The window's 960 numbers, `window` in `common()` of lib.rs";
     table("bands", "window", "Window", "window", what, &c.window);
     let what = "The DCT's 22 rows of 22 numbers, `dct_table` in `common()` of lib.rs";
-    table("bands", "dct_table", "DctTable", "dctTable", what, &c.dct_table);
+    table("bands", "dct_table", "DctTable", "dct_table", what, &c.dct_table);
     let what = "The activations' 201 numbers, `TANSIG_TABLE` of util.rs";
     table("numbers", "table", "Tansig", "tansig", what, &TANSIG_TABLE);
     one_by_one("crates/numbers/src/table.rt", "tansig", &TANSIG_TABLE);
@@ -46,16 +46,15 @@ fn one_by_one(file: &str, name: &str, numbers: &[f32]) {
     let arms: String = numbers[..last].iter().enumerate().map(arm).collect();
     let written = std::fs::read_to_string(file).unwrap();
     let written = written.replace(
-        "ghost use mathlib.Core.Path.{_≡_};\n",
-        "ghost use mathlib.Core.Path.{_≡_};\nghost use Prim.Native.Nat.{_≤_};\n\
-         ghost use Rattle·rules.specs.F32.{at};\n",
+        "ghost use Rattle.std.specs.Prelude.{◌≡◌};\n",
+        "ghost use Rattle.std.specs.Prelude.{◌≡◌, ◌≤◌};\nghost use Rattle.rules.specs.F32.{at};\n",
     );
     let code = format!(
         "{written}
 // One of them: a match is compiled to a table that is never filled.
 pub(crate) fn entry(i: u32) -> f32
-    requires {{ ⌜ i ≤ {last} ⌝ }}
-    ensures {{ λ r. ⌜ r ≡ at {name} i ⌝ }}
+    requires {{ i ≤ {last} }}
+    ensures {{ result ≡ at {name} i }}
 {{
     match i {{
 {arms}        _ => {},
@@ -68,8 +67,8 @@ pub(crate) fn entry(i: u32) -> f32
 }
 
 // Half a row of the DCT, which takes two lines.
-const HALF_ROW: &str = "abbrev halfRow : ℕ → ℕ → ℕ → ℕ → ℕ → ℕ → ℕ → ℕ → ℕ → ℕ → ℕ → List ℕ
-halfRow a b c d e f g h i j k = a ∷ b ∷ c ∷ d ∷ e ∷ f ∷ g ∷ h ∷ i ∷ j ∷ k ∷ []
+const HALF_ROW: &str = "abbrev half_row : ℕ → ℕ → ℕ → ℕ → ℕ → ℕ → ℕ → ℕ → ℕ → ℕ → ℕ → List ℕ
+half_row a b c d e f g h i j k = a ∷ b ∷ c ∷ d ∷ e ∷ f ∷ g ∷ h ∷ i ∷ j ∷ k ∷ []
 
 ";
 
@@ -80,14 +79,14 @@ fn table(krate: &str, module: &str, spec: &str, name: &str, what: &str, numbers:
     let code = format!(
         "// {what}.
 // Whoever loops over them takes them once, by `all`: each mention of a constant array fills it anew.
-ghost use mathlib.Core.Path.{{_≡_}};
-ghost use Rattle·{krate}·specs.specs.{spec}.{{{name}}};
+ghost use Rattle.std.specs.Prelude.{{◌≡◌}};
+ghost use Rattle.{krate}.specs.{spec}.{{{name}}};
 
 const {constant}: [f32; {count}] = [
 {lines}];
 
 pub fn all() -> [f32; {count}]
-    ensures {{ λ r. ⌜ r ≡ {name} ⌝ }}
+    ensures {{ result ≡ {name} }}
 {{
     {constant}
 }}
@@ -95,25 +94,25 @@ pub fn all() -> [f32; {count}]
     );
     let bits: Vec<String> = numbers.iter().map(|x| format!("0x{:08X}", x.to_bits())).collect();
     let (half_row, list) = if spec == "DctTable" {
-        let half_row = |half: &[String]| format!("    halfRow {}\n    {}", half[..6].join(" "), half[6..].join(" "));
+        let half_row = |half: &[String]| format!("    half_row {}\n    {}", half[..6].join(" "), half[6..].join(" "));
         (HALF_ROW, bits.chunks(11).map(half_row).collect::<Vec<_>>().join(" ++\n"))
     } else {
         ("", bits.chunks(8).map(|eight| format!("    {} ∷", eight.join(" ∷ "))).collect::<Vec<_>>().join("\n") + " []")
     };
     let text = format!(
         "-- {what}: by their bit patterns.
-use Rattle·rules.specs.Common.{{ℕ, List, [], _∷_{}, map, Float, ofBits}}
-use Rattle·rules.specs.F32.{{f32}}
+use Rattle.rules.specs.Common.{{ℕ, List, [], ◌∷◌{}, map, Float, of_bits}}
+use Rattle.rules.specs.F32.{{f32}}
 
-{half_row}unfoldable pub {name}Bits : List ℕ
-{name}Bits =
+{half_row}unfoldable pub {name}_bits : List ℕ
+{name}_bits =
 {list}
 
 unfoldable pub {name} : List Float
-unfolding {name}Bits ofBits
-{name} = map f32 {name}Bits
+unfolding {name}_bits of_bits
+{name} = map f32 {name}_bits
 ",
-        if half_row.is_empty() { "" } else { ", _++_" }
+        if half_row.is_empty() { "" } else { ", ◌++◌" }
     );
     write(format!("crates/{krate}/src/{module}.rt"), code).unwrap();
     write(format!("crates/{krate}/specs/{spec}.antt"), text).unwrap();

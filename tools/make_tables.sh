@@ -16,7 +16,10 @@ trap 'rm -rf "$room"' EXIT
 rustc --edition 2021 -o "$room/tables" "$room/main.rs"
 for crate in bands logs numbers transforms; do mkdir -p "$room/crates/$crate/src" "$room/crates/$crate/specs"; done
 cp crates.txt "$room"
-(cd "$room" && ./tables && rt fmt)
+(cd "$room" && ./tables)
+for crate in bands logs numbers transforms; do
+    (cd "$room/crates/$crate" && rt fmt >"$room/said" 2>&1) || { cat "$room/said"; exit 1; }
+done
 others=0
 for file in $(cd "$room" && find crates -type f | sort); do
     cmp -s "$room/$file" "$file" && continue
