@@ -5,7 +5,8 @@
 --     kept                 every buffer keeps its length
 --     answered             a refusal is 5, and a model's refusal one of its table
 -- Assumes nothing.
-use Rattle.rules.proofs.Common.{ℕ, ◌≤◌, false, List, [], ◌∷◌, ◌++◌, ◌≡◌, refl, sym, ap, ◌∙◌, length, take, drop}
+use Rattle.std.specs.Prelude.{◌≤◌, ◌∷◌, ◌++◌, ◌≡◌}
+use Rattle.rules.proofs.Common.{ℕ, false, List, [], refl, sym, ap, ◌∙◌, length, take, drop}
 use Rattle.rules.proofs.Common.{length-take, length-drop}
 use Rattle.rules.proofs.Common.{length-append, Float}
 use native.Mathlib.Omega.{arith}

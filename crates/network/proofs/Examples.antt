@@ -1,5 +1,6 @@
 -- The definitions at numbers that the Rust was run on: two neurons, three inputs, each activation. Assumes nothing.
-use Rattle.rules.proofs.Common.{List, [], ◌∷◌, ◌++◌, map, ◌≡◌, refl, Float, binary32}
+use Rattle.std.specs.Prelude.{◌∷◌, ◌++◌, ◌≡◌}
+use Rattle.rules.proofs.Common.{List, [], map, refl, Float, binary32}
 use lib.Ieee.{is_nan, lt, to_bits, of_bits, neg, add, sub, mul, of_int, to_unsigned}
 use Rattle.rules.specs.Loop.{loop}
 use Rattle.rules.specs.F32.{f32}

@@ -1,5 +1,6 @@
 -- The layers of a model that reads, on lengths that are theirs. Assumes nothing.
-use Rattle.rules.proofs.Common.{ℕ, ◌+◌, ◌≤◌, List, ◌≡◌, refl, sym, ◌∙◌, length}
+use Rattle.std.specs.Prelude.{◌+◌, ◌≤◌, ◌≡◌}
+use Rattle.rules.proofs.Common.{ℕ, List, refl, sym, ◌∙◌, length}
 use native.Mathlib.Omega.{arith}
 use Rattle.model.specs.Model.{read_of}
 use Rattle.model.specs.declared.Kind.TheVariants.{Gru}

@@ -1,5 +1,6 @@
 -- The parts of a layer, put together: from what each call leaves to the layer's definition. Assumes nothing.
-use Rattle.rules.proofs.Common.{ℕ, ◌+◌, ◌*◌, ◌≤◌, List, map, ◌≡◌, ◌∙◌, length, Float}
+use Rattle.std.specs.Prelude.{◌+◌, ◌*◌, ◌≤◌, ◌≡◌}
+use Rattle.rules.proofs.Common.{ℕ, List, map, ◌∙◌, length, Float}
 use native.Mathlib.Omega.{arith}
 use Rattle.rules.specs.Loop.{loop}
 use Rattle.rules.specs.F32.{part, ◌⊗◌}

@@ -1,5 +1,6 @@
 -- A layer's output has a place for each neuron, and a state keeps its length. Assumes nothing.
-use Rattle.rules.proofs.Common.{ℕ, List, ◌≡◌, ◌∙◌, length, length-set, Float}
+use Rattle.std.specs.Prelude.{◌≡◌}
+use Rattle.rules.proofs.Common.{ℕ, List, ◌∙◌, length, length-set, Float}
 use lib.ListN.{length-map}
 use Rattle.rules.specs.Loop.{loop}
 use Rattle.rules.proofs.Loops.{same_length}

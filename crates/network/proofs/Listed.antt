@@ -1,6 +1,7 @@
 -- The loops of a layer over whole lists: an activation is a map, and a gate's loop is a map and a loop behind it.
 -- Assumes nothing.
-use Rattle.rules.proofs.Common.{ℕ, ◌<◌, List, map, ◌≡◌, sym, ap, ◌∙◌, length, set, Float, binary32, nan}
+use Rattle.std.specs.Prelude.{◌<◌, ◌≡◌}
+use Rattle.rules.proofs.Common.{ℕ, List, map, sym, ap, ◌∙◌, length, set, Float, binary32, nan}
 use mathlib.Core.List.{map-map}
 use native.Mathlib.Omega.{arith}
 use Rattle.rules.specs.F32.{one, at, ◌⊕◌, ◌⊖◌, ◌⊗◌}

@@ -1,7 +1,8 @@
 -- The arrays of a layer, as the code cuts them from the bytes: each is the array that the definition names, and has its
 -- length.
 -- Assumes nothing.
-use Rattle.rules.proofs.Common.{ℕ, ◌+◌, ◌-◌, ◌*◌, ◌≤◌, List, ◌++◌, ◌≡◌, refl, sym, ap, ◌∙◌, length, take, drop}
+use Rattle.std.specs.Prelude.{◌+◌, ◌-◌, ◌*◌, ◌≤◌, ◌++◌, ◌≡◌}
+use Rattle.rules.proofs.Common.{ℕ, List, refl, sym, ap, ◌∙◌, length, take, drop}
 use Rattle.rules.proofs.Common.{length-take, length-drop, Float}
 use native.Mathlib.Nat.{mul_comm, mul_assoc}
 use native.Mathlib.Omega.{arith}

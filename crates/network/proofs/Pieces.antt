@@ -1,5 +1,6 @@
 -- Slices that are put into a buffer one after the other. Assumes nothing.
-use Rattle.rules.proofs.Common.{ℕ, ◌+◌, ◌≤◌, ◌<◌, List, ◌++◌, ◌≡◌, length, get_or, take, set}
+use Rattle.std.specs.Prelude.{◌+◌, ◌≤◌, ◌<◌, ◌++◌, ◌≡◌}
+use Rattle.rules.proofs.Common.{ℕ, List, length, get_or, take, set}
 use native.Mathlib.Nat.{zero-add}
 use native.Mathlib.Numerals.{add-one}
 use native.Mathlib.Omega.{arith}

@@ -4,7 +4,8 @@
 --     joined_in, parted    three slices that are joined in one, and taken out of it again
 --     six-joined           what the layers leave, one after the other, is what the definition says
 -- Assumes nothing.
-use Rattle.rules.proofs.Common.{ℕ, ◌+◌, ◌≤◌, List, ◌++◌, ◌≡◌, refl, sym, ap, ◌∙◌, length, take, drop, length-take}
+use Rattle.std.specs.Prelude.{◌+◌, ◌≤◌, ◌++◌, ◌≡◌}
+use Rattle.rules.proofs.Common.{ℕ, List, refl, sym, ap, ◌∙◌, length, take, drop, length-take}
 use Rattle.rules.proofs.Common.{length-drop, length-append, Float}
 use mathlib.Core.List.{append_assoc}
 use mathlib.Core.Logic.{inl, inr}

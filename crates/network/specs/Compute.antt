@@ -1,5 +1,6 @@
 -- `RnnState::compute` of rnn.rs: the six layers for one frame, on the bytes of a model.
-use Rattle.rules.specs.Common.{ℕ, List, [], ◌∷◌, ◌++◌, length, take, drop, Float}
+use Rattle.std.specs.Prelude.{◌∷◌, ◌++◌}
+use Rattle.rules.specs.Common.{ℕ, List, [], length, take, drop, Float}
 use Rattle.rules.specs.Place.{get}
 use Rattle.rules.specs.Refusals.{◌when◌, refusing, wrong}
 use Rattle.model.specs.Array.{place_of}

@@ -1,5 +1,6 @@
 -- What is claimed of the three states. The proof is in proofs/States.
-use Rattle.rules.specs.Common.{List, ◌++◌, ◌≡◌, Float}
+use Rattle.std.specs.Prelude.{◌++◌, ◌≡◌}
+use Rattle.rules.specs.Common.{List, Float}
 use Rattle.network.specs.Compute.{vad_in, noise_in, denoise_in}
 
 -- A slice is its three states next to each other, whatever its length.

@@ -1,5 +1,6 @@
 -- `copy_i8`, `DenseLayer::compute` and `GruLayer::compute` of rnn.rs.
-use Rattle.rules.specs.Common.{ℕ, ◌+◌, ◌*◌, ◌≤◌, List, map, ◌≡◌, length, set, Float}
+use Rattle.std.specs.Prelude.{◌+◌, ◌*◌, ◌≤◌, ◌≡◌}
+use Rattle.rules.specs.Common.{ℕ, List, map, length, set, Float}
 use Rattle.rules.specs.Loop.{loop}
 use Rattle.rules.specs.F32.{f32, one, at, part, ◌⊕◌, ◌⊖◌, ◌⊗◌}
 use Rattle.numbers.specs.Larger.{rectified}

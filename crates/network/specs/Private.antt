@@ -1,5 +1,6 @@
 -- For the contracts of private functions.
-use Rattle.rules.specs.Common.{ℕ, ◌+◌, ◌*◌, ◌≤◌, List, ◌≡◌, set, Float}
+use Rattle.std.specs.Prelude.{◌+◌, ◌*◌, ◌≤◌, ◌≡◌}
+use Rattle.rules.specs.Common.{ℕ, List, set, Float}
 use Rattle.rules.specs.F32.{one, at, ◌⊕◌, ◌⊖◌, ◌⊗◌}
 use Rattle.rules.specs.Place.{Place}
 use Rattle.model.specs.Laws.{LiesIn}

@@ -155,9 +155,9 @@ pub(crate) fn gru(
     activation: Activation,
     input: &[f32],
 )
-    requires gru_arrays { GruArrays (length state.old) (length weights.now) (length recurrent.now) (length bias.now)
+    requires arrays { GruArrays (length state.old) (length weights.now) (length recurrent.now) (length bias.now)
         (length input.now) }
-    requires table_value { (table.now ≡ tansig)
+    requires lent { (table.now ≡ tansig)
         × ScratchFits (length state.old) (length z.old) (length r.old) (length h.old) }
     ensures { state.new
         ≡ gru_of weights.now recurrent.now bias.now activation

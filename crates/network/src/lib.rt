@@ -1,6 +1,7 @@
 // The layers of the network. Each is proved equal to its definition. A layer refuses with 5, and changes nothing,
 // exactly if a length does not fit or a count is outside 1 to 127.
 #![tactic(auto)]
+
 ghost use Rattle.std.specs.Prelude.{◌≡◌, length};
 ghost use Rattle.rules.specs.Leaf.{Leaf, ◌leaving◌};
 ghost use Rattle.network.specs.Compute.{outcome_of, outcome_on, computed, vad_in, noise_in, denoise_in};

@@ -1,0 +1,12 @@
+-- `network::layers::mix` meets its contract. Assumes nothing.
+use Rattle.rules.proofs.Loops.{turns}
+use Rattle.network.proofs.layers.mix.Goals as goal
+
+pub loop-j-init : goal.loop-j-init
+loop-j-init c = search turns
+
+pub loop-j-preserved : goal.loop-j-preserved
+loop-j-preserved c = search turns
+
+pub returns : goal.returns
+returns c = search turns

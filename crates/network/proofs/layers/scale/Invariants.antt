@@ -1,0 +1,10 @@
+-- `network::layers::scale` meets its contract. Assumes nothing.
+use Rattle.std.specs.Prelude.{◌≤◌, ◌≡◌}
+use Rattle.rules.proofs.Common.{length, nan}
+use Rattle.rules.specs.F32.{◌⊗◌}
+use Rattle.rules.proofs.Lists.{Mapping}
+use Rattle.network.specs.Layers.{weights_scale}
+use Rattle.network.proofs.layers.scale.Given as goal
+
+abbrev pub invariant-loop-j : goal.invariant-loop-j
+invariant-loop-j l = (l.j ≤ l.j-end) × (l.j-end ≡ length l.initial.xs) × Mapping (λ x. weights_scale ⊗ x) nan l.initial.xs l.j l.xs
