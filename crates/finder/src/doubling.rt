@@ -11,7 +11,7 @@ const SECOND_CHECK: [usize; 16] = [0, 0, 3, 2, 3, 2, 5, 2, 3, 2, 3, 2, 5, 2, 3, 
 
 // What each shorter period is held against: the period found, half of the last one, the last gain, the energy, and the
 // gain at the period found.
-#[derive(Drop)]
+#[derive(Clone, Copy)]
 pub struct Asked {
     // The period that the search found, halved: `t0` of the text.
     pub t0: usize,

@@ -4,6 +4,7 @@
 //     search      `pitch_search`
 //     doubling    `remove_doubling` and `pitch_gain`
 #![tactic(auto)]
+
 ghost use Rattle.std.specs.Prelude.{◌≡◌, length};
 ghost use Rattle.rules.specs.Leaf.{Leaf};
 ghost use Rattle.finder.specs.Finder.{process, find, found_number, period_in, gain_in};

@@ -1,6 +1,7 @@
 // The lag that a bench finds by itself (request 04): the first pitch of `find_best_pitch` over a plain correlation. The
 // rule is our own: it is simpler than `PitchFinder::process` of nnnoiseless.
 #![tactic(auto)]
+
 ghost use Rattle.std.specs.Prelude.{◌≡◌, length};
 ghost use Rattle.rules.specs.Leaf.{Leaf};
 ghost use Rattle.lag.specs.Lag.{correlations, first_pitch, own_lag, own_number, lag_in};

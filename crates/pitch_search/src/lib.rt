@@ -1,6 +1,7 @@
 // The search of pitch.rs: the inner product of two slices, and the best two of some lags. A public function refuses
 // with 5 exactly if its lengths do not fit; its core does the work.
 #![tactic(auto)]
+
 ghost use Rattle.std.specs.Prelude.{◌≡◌, ◌+◌, ◌<◌, ◌≤◌, length};
 ghost use Rattle.rules.specs.Leaf.{Leaf};
 ghost use Rattle.pitch_search.specs.Best.{start_norm, considered, slid, best, best_of, pitches_number, first_of};
@@ -89,7 +90,7 @@ fn norm(ys: &[f32], len: usize) -> f32
 }
 
 // What `find_best_pitch` carries from lag to lag, by the Rust's names.
-#[derive(Drop)]
+#[derive(Clone, Copy)]
 struct Best {
     // The best lag's squared correlation.
     best_num: f32,
@@ -173,7 +174,7 @@ fn find_best_pitch_core(xcorr: &[f32], ys: &[f32], len: usize) -> Best
 }
 
 // The answer of `find_best_pitch`.
-#[derive(Drop)]
+#[derive(Clone, Copy)]
 pub enum Pitches {
     // The best lag and the second best.
     Best(usize, usize),

@@ -1,0 +1,6 @@
+-- `finder::doubling::remove_doubling` meets its contract. Assumes nothing.
+use borrow.Author.Rules.{rules}
+use Rattle.finder.proofs.doubling.remove_doubling.Goals as goal
+
+pub returns : goal.returns
+returns c = rw (c.remove_in.ensures, c.half_of.ensures)

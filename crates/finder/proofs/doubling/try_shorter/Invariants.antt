@@ -1,0 +1,15 @@
+-- `finder::doubling::try_shorter` meets its contract. Assumes nothing.
+use Rattle.rules.proofs.Common.{◌+◌, ◌-◌, ◌≤◌, ◌≡◌}
+use native.Mathlib.Omega.{arith}
+use borrow.Author.Tests.{lt-ltb, le-ltb}
+use Rattle.rules.specs.Loop.{walk, go, stop}
+use Rattle.rules.proofs.Loops.{turns, walk_more, walk_ended, walk_stop}
+use Rattle.finder.specs.Doubling.{shorter_step, shorter}
+use Rattle.finder.proofs.Ranges.{shortened_small}
+use Rattle.finder.proofs.doubling.try_shorter.Given as goal
+
+abbrev pub invariant-loop-i : goal.invariant-loop-i
+invariant-loop-i l = (l.i ≤ 14) × (go l.best ≡ walk l.i (shorter_step l.x l.lookup l.a) l.initial.best)
+
+abbrev pub decreases-loop-i : goal.decreases-loop-i
+decreases-loop-i l = 14 - l.i
