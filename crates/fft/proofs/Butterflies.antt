@@ -1,5 +1,6 @@
 -- The transforms of two to five numbers are sums over the circle. Assumes nothing.
-use Rattle.rules.proofs.Common.{ℕ, zero, suc, ◌+◌, ◌*◌, ◌<◌, cond, List, [], ◌∷◌, ◌≡◌, refl, sym, ap, ◌∙◌, eqb}
+use Rattle.std.specs.Prelude.{◌+◌, ◌*◌, ◌<◌, ◌∷◌, ◌≡◌}
+use Rattle.rules.proofs.Common.{ℕ, zero, suc, cond, List, [], refl, sym, ap, ◌∙◌, eqb}
 use native.Mathlib.Omega.{arith}
 use Rattle.fft.specs.Ops.{Ops, Complex}
 use Rattle.fft.specs.Exact.{Ring, Cosines}

@@ -1,5 +1,6 @@
 -- Complex numbers over a commutative ring, the points of the circle by its cosines, and finite sums. Assumes nothing.
-use Rattle.rules.proofs.Common.{ℕ, zero, suc, ◌+◌, ◌*◌, ◌/◌, ◌%◌, ◌<◌, List, [], ◌∷◌, ◌++◌, ◌≡◌, refl, sym, ap, ◌∙◌}
+use Rattle.std.specs.Prelude.{◌+◌, ◌*◌, ◌/◌, ◌%◌, ◌<◌, ◌∷◌, ◌++◌, ◌≡◌}
+use Rattle.rules.proofs.Common.{ℕ, zero, suc, List, [], refl, sym, ap, ◌∙◌}
 use Rattle.rules.proofs.Common.{get_or}
 use native.Mathlib.Nat.{add-zero, add-suc, mul-zero, mul-suc}
 use native.Mathlib.Omega.{arith}

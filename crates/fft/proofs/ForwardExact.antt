@@ -1,5 +1,6 @@
 -- Over a commutative ring the fast forward transform is the plain one. Assumes nothing.
-use Rattle.rules.proofs.Common.{ℕ, zero, suc, ◌+◌, ◌-◌, ◌*◌, ◌/◌, ◌%◌, ◌≤◌, ◌<◌, cond, List, [], ◌∷◌, ◌≡◌, refl, sym}
+use Rattle.std.specs.Prelude.{◌+◌, ◌-◌, ◌*◌, ◌/◌, ◌%◌, ◌≤◌, ◌<◌, ◌∷◌, ◌≡◌}
+use Rattle.rules.proofs.Common.{ℕ, zero, suc, cond, List, [], refl, sym}
 use Rattle.rules.proofs.Common.{ap, ◌∙◌, eqb}
 use mathlib.Core.Logic.{⊎_elim}
 use native.Mathlib.Nat.{mul-add, add-mul, mul_left_comm, mul_assoc, mul_comm}

@@ -1,5 +1,6 @@
 -- The transforms of two to five numbers, of what was read. Assumes nothing.
-use Rattle.rules.proofs.Common.{ℕ, ◌+◌, ◌*◌, List, ◌≡◌, ap, ◌∙◌, Float}
+use Rattle.std.specs.Prelude.{◌+◌, ◌*◌, ◌≡◌}
+use Rattle.rules.proofs.Common.{ℕ, List, ap, ◌∙◌, Float}
 use Rattle.fft.specs.Ops.{Complex}
 use Rattle.fft.specs.Fast.{complex_at, turned_back, of_two, of_three, of_four, of_five, first, angle, row2, row3, row4}
 use Rattle.fft.specs.Fast.{row5, stage, transformed}

@@ -1,6 +1,7 @@
 -- A list of complex numbers that is filled four lanes at a time: `begun` shows `Laid` where a stage begins, `lay` adds
 -- the bins of four lanes, row by row, and `laid_all` reads it after the last. Assumes nothing.
-use Rattle.rules.proofs.Common.{ℕ, zero, suc, ◌+◌, ◌-◌, ◌*◌, ◌/◌, ◌%◌, ◌≤◌, ◌<◌, cond, List, ◌≡◌, refl, sym, ap, ◌∙◌}
+use Rattle.std.specs.Prelude.{◌+◌, ◌-◌, ◌*◌, ◌/◌, ◌%◌, ◌≤◌, ◌<◌, ◌≡◌}
+use Rattle.rules.proofs.Common.{ℕ, zero, suc, cond, List, refl, sym, ap, ◌∙◌}
 use Rattle.rules.proofs.Common.{ltb, length, set, length-set}
 use Rattle.rules.proofs.Common.{Float, nan}
 use mathlib.Core.Logic.{◌⊎◌, inl, inr, ⊎_elim}

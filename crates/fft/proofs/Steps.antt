@@ -1,7 +1,8 @@
 -- A stage of the complex transform, over a ring: where the list holds the transforms of s numbers that stand r * m
 -- apart, it then holds those of r * s numbers that stand m apart. So the five stages are the transform of 480 numbers.
 -- Assumes nothing.
-use Rattle.rules.proofs.Common.{ℕ, ◌+◌, ◌-◌, ◌*◌, ◌/◌, ◌%◌, ◌<◌, cond, List, ◌≡◌, sym, ap, ◌∙◌, ltb}
+use Rattle.std.specs.Prelude.{◌+◌, ◌-◌, ◌*◌, ◌/◌, ◌%◌, ◌<◌, ◌≡◌}
+use Rattle.rules.proofs.Common.{ℕ, cond, List, sym, ap, ◌∙◌, ltb}
 use native.Mathlib.Nat.{add-mul, mul-add, mul-mul-mul_comm, mul_assoc, mul_left_comm, div-add-mod}
 use native.Mathlib.Omega.{arith}
 use borrow.Author.Tests.{lt-ltb, le-ltb}

@@ -1,7 +1,8 @@
 -- The 960-point real transforms through a complex transform of 480 numbers in five stages, with every operation in its
 -- order. `c m` is the cosine of m/960 of a turn, so `c (m + 240)` is minus its sine. The complex numbers z[0] to z[479]
 -- are a list of 960 numbers: their real parts, and then their imaginary parts.
-use Rattle.rules.specs.Common.{ℕ, zero, suc, ◌+◌, ◌-◌, ◌*◌, ◌/◌, ◌%◌, cond, List, eqb, ltb}
+use Rattle.std.specs.Prelude.{◌+◌, ◌-◌, ◌*◌, ◌/◌, ◌%◌}
+use Rattle.rules.specs.Common.{ℕ, zero, suc, cond, List, eqb, ltb}
 use Rattle.rules.specs.Tab.{tab}
 use Rattle.fft.specs.Ops.{Ops, Complex, element_at}
 

@@ -1,6 +1,7 @@
 -- Without rounding, the fast transforms are the plain sums of request 08: what is claimed. The proofs are in
 -- proofs/Exactly.antt and proofs/Same.antt.
-use Rattle.rules.specs.Common.{ℕ, List, ◌≡◌, Float}
+use Rattle.std.specs.Prelude.{◌≡◌}
+use Rattle.rules.specs.Common.{ℕ, List, Float}
 use Rattle.transforms.specs.Cosine.{cosine}
 use Rattle.transforms.specs.Transform.{forward_of, inverse_of}
 use Rattle.fft.specs.Ops.{Ops}

@@ -1,6 +1,7 @@
 -- The plain sums of `transforms`, with any operations and cosines. With the operations of f32 and its table they are
 -- the definitions of `transforms` (specs/Laws).
-use Rattle.rules.specs.Common.{ℕ, ◌+◌, ◌-◌, ◌*◌, ◌%◌, List}
+use Rattle.std.specs.Prelude.{◌+◌, ◌-◌, ◌*◌, ◌%◌}
+use Rattle.rules.specs.Common.{ℕ, List}
 use Rattle.rules.specs.Loop.{loop, range}
 use Rattle.rules.specs.Tab.{tab}
 use Rattle.rules.specs.Spectrum.{bin_of}

@@ -1,6 +1,7 @@
 -- For the contracts of private functions: the structs of the code, and a list of complex numbers that is filled four
 -- lanes at a time.
-use Rattle.rules.specs.Common.{ℕ, ◌+◌, ◌*◌, ◌<◌, List, ◌≡◌, length, set, Float}
+use Rattle.std.specs.Prelude.{◌+◌, ◌*◌, ◌<◌, ◌≡◌}
+use Rattle.rules.specs.Common.{ℕ, List, length, set, Float}
 use Rattle.rules.specs.F32.{at}
 use Rattle.fft.specs.Ops.{Complex}
 use Rattle.fft.specs.Fast.{complex_at}

@@ -1,7 +1,8 @@
 -- One law over the lane: what the code adds to a sum or takes from it is the sum's own next term. A lane of i quarters
 -- is i * n quarters on at term n, so that only the remainder by 4 counts. Then a step of the eight sums, forward and
 -- inverse. Assumes nothing.
-use Rattle.rules.proofs.Common.{ℕ, zero, suc, ◌+◌, ◌-◌, ◌*◌, ◌/◌, ◌%◌, ◌≤◌, ◌<◌, Bool, true, List, ◌≡◌, refl, sym, ◌∙◌}
+use Rattle.std.specs.Prelude.{◌+◌, ◌-◌, ◌*◌, ◌/◌, ◌%◌, ◌≤◌, ◌<◌, ◌≡◌}
+use Rattle.rules.proofs.Common.{ℕ, zero, suc, Bool, true, List, refl, sym, ◌∙◌}
 use Rattle.rules.proofs.Common.{ltb, T, Float, binary32}
 use native.Mathlib.Nat.{add-mul, mul-add, mul_assoc, mul_left_comm, mul-add-mod_self_left}
 use native.Mathlib.Omega.{arith}

@@ -1,6 +1,7 @@
 -- For the contracts of private functions: how the sums are shared. The indices k, 240 * i + k and 240 * i - k have the
 -- same products except for their signs. So eight sums are kept at a time, and each for four neighbours.
-use Rattle.rules.specs.Common.{ℕ, ◌+◌, ◌-◌, ◌*◌, ◌/◌, ◌%◌, ◌<◌, cond, List, [], ◌∷◌, ◌≡◌, eqb, get_or, take, Float}
+use Rattle.std.specs.Prelude.{◌+◌, ◌-◌, ◌*◌, ◌/◌, ◌%◌, ◌<◌, ◌∷◌, ◌≡◌}
+use Rattle.rules.specs.Common.{ℕ, cond, List, [], eqb, get_or, take, Float}
 use Rattle.rules.specs.Loop.{loop, range}
 use Rattle.rules.specs.Tab.{tab}
 use Rattle.rules.specs.F32.{◌⊕◌, ◌⊖◌, at, f32}

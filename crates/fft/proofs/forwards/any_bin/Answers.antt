@@ -1,5 +1,6 @@
 -- `fft::forwards::any_bin` meets its contract. Assumes nothing.
-use Rattle.rules.proofs.Common.{◌-◌, ◌%◌, refl}
+use Rattle.std.specs.Prelude.{◌-◌, ◌%◌}
+use Rattle.rules.proofs.Common.{refl}
 use Rattle.fft.proofs.Ends.{bin_of_lem}
 use Rattle.fft.proofs.forwards.any_bin.Goals as goal
 

@@ -1,6 +1,6 @@
 -- `fft::forwards::middle_bins` meets its contract. Assumes nothing.
+use Rattle.std.specs.Prelude.{◌+◌, ◌-◌, ◌*◌, ◌≡◌}
 use native.Mathlib.Omega.{arith}
-use Rattle.rules.proofs.Common.{◌+◌, ◌-◌, ◌*◌, ◌≡◌}
 use Rattle.fft.proofs.forwards.middle_bins.Goals as goal
 
 pub loop-b-init : goal.loop-b-init

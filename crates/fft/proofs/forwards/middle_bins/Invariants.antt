@@ -1,5 +1,5 @@
 -- `fft::forwards::middle_bins` meets its contract. Assumes nothing.
-use Rattle.rules.proofs.Common.{◌+◌, ◌-◌, ◌*◌, ◌≤◌}
+use Rattle.std.specs.Prelude.{◌+◌, ◌-◌, ◌*◌, ◌≤◌}
 use Rattle.fft.specs.Single.{single, of}
 use Rattle.fft.specs.Fast.{number_out}
 use Rattle.fft.specs.Private.{Filled}

@@ -1,6 +1,7 @@
 -- `fft::forwards::pack` meets its contract. Assumes nothing.
+use Rattle.std.specs.Prelude.{◌+◌, ◌*◌, ◌≡◌}
 use native.Mathlib.Omega.{arith}
-use Rattle.rules.proofs.Common.{◌+◌, ◌*◌, ◌≡◌, refl}
+use Rattle.rules.proofs.Common.{refl}
 use Rattle.fft.specs.Single.{single}
 use Rattle.fft.specs.Fast.{pair, as_complex}
 use Rattle.fft.proofs.Laying.{begun, laid_single}

@@ -1,5 +1,5 @@
 -- `fft::forwards::pack` meets its contract. Assumes nothing.
-use Rattle.rules.proofs.Common.{◌-◌, ◌*◌, ◌≤◌}
+use Rattle.std.specs.Prelude.{◌-◌, ◌*◌, ◌≤◌}
 use Rattle.fft.specs.Single.{single}
 use Rattle.fft.specs.Fast.{pair}
 use Rattle.fft.specs.Private.{Laid}

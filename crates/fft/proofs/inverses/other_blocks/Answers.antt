@@ -1,6 +1,6 @@
 -- `fft::inverses::other_blocks` meets its contract. Assumes nothing.
+use Rattle.std.specs.Prelude.{◌+◌, ◌*◌, ◌≡◌}
 use native.Mathlib.Omega.{arith}
-use Rattle.rules.proofs.Common.{◌+◌, ◌*◌, ◌≡◌}
 use Rattle.fft.specs.Single.{single, of}
 use Rattle.fft.specs.Fast.{merged_at, merged_of}
 use Rattle.fft.proofs.Laying.{laid_single}

@@ -1,5 +1,5 @@
 -- `fft::inverses::other_blocks` meets its contract. Assumes nothing.
-use Rattle.rules.proofs.Common.{◌+◌, ◌-◌, ◌*◌, ◌≤◌}
+use Rattle.std.specs.Prelude.{◌+◌, ◌-◌, ◌*◌, ◌≤◌}
 use Rattle.fft.specs.Single.{single, of}
 use Rattle.fft.specs.Fast.{merged_at}
 use Rattle.fft.specs.Private.{Laid}

@@ -1,6 +1,7 @@
 -- `fft::inverses::samples` meets its contract. Assumes nothing.
+use Rattle.std.specs.Prelude.{◌+◌, ◌*◌, ◌≡◌}
 use native.Mathlib.Omega.{arith}
-use Rattle.rules.proofs.Common.{◌+◌, ◌*◌, ◌≡◌, refl, length-set}
+use Rattle.rules.proofs.Common.{refl, length-set}
 use Rattle.rules.proofs.Lists.{filling_begin, filling_more, filling_ended}
 use Rattle.fft.proofs.Ends.{sample_even, sample_odd}
 use Rattle.fft.proofs.inverses.samples.Goals as goal

@@ -1,5 +1,6 @@
 -- `fft::inverses::samples` meets its contract. Assumes nothing.
-use Rattle.rules.proofs.Common.{◌-◌, ◌*◌, ◌≤◌, ◌≡◌, length}
+use Rattle.std.specs.Prelude.{◌-◌, ◌*◌, ◌≤◌, ◌≡◌}
+use Rattle.rules.proofs.Common.{length}
 use Rattle.fft.specs.Single.{single}
 use Rattle.rules.proofs.Lists.{Filling}
 use Rattle.fft.specs.Fast.{sample_out}

@@ -1,5 +1,6 @@
 -- `fft::stages::last_stage` meets its contract. Assumes nothing.
-use Rattle.rules.proofs.Common.{◌+◌, ◌*◌, ◌≡◌, refl}
+use Rattle.std.specs.Prelude.{◌+◌, ◌*◌, ◌≡◌}
+use Rattle.rules.proofs.Common.{refl}
 use native.Mathlib.Omega.{arith}
 use Rattle.fft.proofs.Laying.{begun, laid_all}
 use Rattle.fft.proofs.stages.last_stage.Goals as goal

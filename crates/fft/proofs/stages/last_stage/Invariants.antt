@@ -1,5 +1,5 @@
 -- `fft::stages::last_stage` meets its contract. Assumes nothing.
-use Rattle.rules.proofs.Common.{◌-◌, ◌*◌, ◌≤◌}
+use Rattle.std.specs.Prelude.{◌-◌, ◌*◌, ◌≤◌}
 use Rattle.fft.specs.Fast.{row4}
 use Rattle.fft.specs.Single.{single, of}
 use Rattle.fft.specs.Private.{Laid}

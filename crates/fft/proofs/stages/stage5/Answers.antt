@@ -1,5 +1,6 @@
 -- `fft::stages::stage5` meets its contract. Assumes nothing.
-use Rattle.rules.proofs.Common.{◌+◌, ◌*◌, ◌≡◌, refl}
+use Rattle.std.specs.Prelude.{◌+◌, ◌*◌, ◌≡◌}
+use Rattle.rules.proofs.Common.{refl}
 use native.Mathlib.Omega.{arith}
 use Rattle.fft.proofs.Laying.{begun, laid_all}
 use Rattle.fft.proofs.stages.stage5.Goals as goal

@@ -1,5 +1,6 @@
 -- `transforms::bins::all_bins` meets its contract. Assumes nothing.
-use Rattle.rules.proofs.Common.{◌+◌, ◌*◌, ◌≡◌, refl, ◌∙◌}
+use Rattle.std.specs.Prelude.{◌+◌, ◌*◌, ◌≡◌}
+use Rattle.rules.proofs.Common.{refl, ◌∙◌}
 use native.Mathlib.Omega.{arith}
 use Rattle.transforms.proofs.Stored.{none_kept}
 use Rattle.transforms.proofs.bins.all_bins.Goals as goal

@@ -1,5 +1,6 @@
 -- `transforms::bins::all_bins` meets its contract. Assumes nothing.
-use Rattle.rules.proofs.Common.{◌-◌, ◌*◌, ◌≤◌, ◌≡◌, length}
+use Rattle.std.specs.Prelude.{◌-◌, ◌*◌, ◌≤◌, ◌≡◌}
+use Rattle.rules.proofs.Common.{length}
 use Rattle.transforms.specs.Private.{Keeps, bin_part}
 use Rattle.transforms.proofs.bins.all_bins.Given as goal
 

@@ -1,5 +1,5 @@
 -- `transforms::bins::four_bins` meets its contract. Assumes nothing.
-use Rattle.rules.proofs.Common.{◌-◌, ◌*◌, ◌≤◌}
+use Rattle.std.specs.Prelude.{◌-◌, ◌*◌, ◌≤◌}
 use Rattle.transforms.specs.Private.{Reached, bin_part}
 use Rattle.transforms.proofs.bins.four_bins.Given as goal
 

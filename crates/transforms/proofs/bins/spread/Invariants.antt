@@ -1,5 +1,6 @@
 -- `transforms::bins::spread` meets its contract. Assumes nothing.
-use Rattle.rules.proofs.Common.{◌-◌, ◌≤◌, List, ◌≡◌, length, Float}
+use Rattle.std.specs.Prelude.{◌-◌, ◌≤◌, ◌≡◌}
+use Rattle.rules.proofs.Common.{List, length, Float}
 use Rattle.rules.specs.Spectrum.{bin_of}
 use Rattle.rules.proofs.Lists.{Filling}
 use Rattle.transforms.specs.Transform.{bin, part_of}

@@ -1,5 +1,6 @@
 -- `transforms::lanes::extend` meets its contract. Assumes nothing.
-use Rattle.rules.proofs.Common.{◌-◌, ◌%◌, ◌≤◌, ◌≡◌, length, get_or, nan}
+use Rattle.std.specs.Prelude.{◌-◌, ◌%◌, ◌≤◌, ◌≡◌}
+use Rattle.rules.proofs.Common.{length, get_or, nan}
 use Rattle.rules.proofs.Lists.{Filling}
 use Rattle.transforms.proofs.lanes.extend.Given as goal
 

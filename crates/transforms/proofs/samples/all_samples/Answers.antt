@@ -1,5 +1,6 @@
 -- `transforms::samples::all_samples` meets its contract. Assumes nothing.
-use Rattle.rules.proofs.Common.{◌+◌, ◌*◌, ◌≡◌, refl, ◌∙◌}
+use Rattle.std.specs.Prelude.{◌+◌, ◌*◌, ◌≡◌}
+use Rattle.rules.proofs.Common.{refl, ◌∙◌}
 use native.Mathlib.Omega.{arith}
 use Rattle.transforms.proofs.Stored.{none_kept}
 use Rattle.transforms.proofs.samples.all_samples.Goals as goal

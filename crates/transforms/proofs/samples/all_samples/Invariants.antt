@@ -1,5 +1,6 @@
 -- `transforms::samples::all_samples` meets its contract. Assumes nothing.
-use Rattle.rules.proofs.Common.{◌-◌, ◌*◌, ◌≤◌, ◌≡◌, length}
+use Rattle.std.specs.Prelude.{◌-◌, ◌*◌, ◌≤◌, ◌≡◌}
+use Rattle.rules.proofs.Common.{length}
 use Rattle.transforms.specs.Private.{Keeps, whole_part}
 use Rattle.transforms.proofs.samples.all_samples.Given as goal
 

@@ -1,5 +1,6 @@
 -- `transforms::samples::four_samples` meets its contract. Assumes nothing.
-use Rattle.rules.proofs.Common.{◌+◌, ◌*◌, ◌≡◌, ◌∙◌}
+use Rattle.std.specs.Prelude.{◌+◌, ◌*◌, ◌≡◌}
+use Rattle.rules.proofs.Common.{◌∙◌}
 use native.Mathlib.Omega.{arith}
 use borrow.Author.Rules.{rules}
 use Rattle.transforms.proofs.Placed.{places_one}

@@ -1,5 +1,5 @@
 -- `transforms::samples::four_samples` meets its contract. Assumes nothing.
-use Rattle.rules.proofs.Common.{◌+◌, ◌-◌, ◌*◌, ◌≤◌}
+use Rattle.std.specs.Prelude.{◌+◌, ◌-◌, ◌*◌, ◌≤◌}
 use Rattle.transforms.specs.Private.{Reached, sample_part}
 use Rattle.transforms.proofs.samples.four_samples.Given as goal
 

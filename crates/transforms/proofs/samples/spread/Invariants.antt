@@ -1,5 +1,6 @@
 -- `transforms::samples::spread` meets its contract. Assumes nothing.
-use Rattle.rules.proofs.Common.{◌-◌, ◌≤◌, List, ◌≡◌, length, Float}
+use Rattle.std.specs.Prelude.{◌-◌, ◌≤◌, ◌≡◌}
+use Rattle.rules.proofs.Common.{List, length, Float}
 use Rattle.rules.proofs.Lists.{Filling}
 use Rattle.transforms.specs.Transform.{sample}
 use Rattle.transforms.specs.Private.{Keeps, whole_part}
