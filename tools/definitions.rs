@@ -48,15 +48,15 @@ fn files(folder: &Path, ending: &str) -> Vec<PathBuf> {
     found
 }
 
-/// The words of a text. `.field` is none, and of `Enum.Case` the first part is one.
+/// The words of a text. `.field` is none, and of `value.field` and `Enum.Case` the first part is one.
 fn words(text: &str) -> impl Iterator<Item = &str> {
-    let between = |c: char| c.is_whitespace() || "(){}[],;⌜⌝".contains(c);
+    let between = |c: char| c.is_whitespace() || "(){}[],;".contains(c);
     text.split(between).filter(|w| !w.starts_with('.')).filter_map(|w| w.split('.').next()).filter(|w| !w.is_empty())
 }
 
 /// Whether a name, which may be an operator with places for its operands, is among the words.
 fn cites(words: &BTreeSet<String>, name: &str) -> bool {
-    words.contains(name) || (name.contains('_') && name.split('_').filter(|p| !p.is_empty()).all(|p| words.contains(p)))
+    words.contains(name) || (name.contains('◌') && name.split('◌').filter(|p| !p.is_empty()).all(|p| words.contains(p)))
 }
 
 fn read(path: &Path, comment: &str) -> Source {
@@ -84,11 +84,10 @@ fn read(path: &Path, comment: &str) -> Source {
     Source { text, uses, handed }
 }
 
-/// Notes what `Rattle·CRATE·specs.specs.FILE.{a, b as c}` brings.
+/// Notes what `Rattle.CRATE.specs.FILE.{a, b as c}` brings.
 fn note(path: &str, uses: &mut BTreeMap<String, Name>) {
     let Some((module, names)) = path.split_once(".{") else { return };
-    let Some((of, file)) = module.strip_prefix("Rattle·").and_then(|m| m.split_once(".specs.")) else { return };
-    let krate = of.split('·').next().unwrap();
+    let Some((krate, file)) = module.strip_prefix("Rattle.").and_then(|m| m.split_once(".specs.")) else { return };
     for name in names.split('}').next().unwrap().split(',') {
         let (name, local) = name.split_once(" as ").unwrap_or((name, name));
         uses.insert(local.trim().into(), (krate.into(), file.into(), name.trim().into()));
@@ -270,7 +269,7 @@ fn unstated(crates: &[PathBuf]) -> Vec<String> {
     let promised: BTreeMap<&str, BTreeSet<&str>> = sections.map(|(title, text)| (title, in_backticks(text))).collect();
     let others = ["TRUST", "ARCHITECTURE", "DECISIONS"].map(page);
     let quoted = others.iter().flat_map(|text| in_backticks(text));
-    let elsewhere: BTreeSet<&str> = quoted.filter(|name| name.contains('-')).collect();
+    let elsewhere: BTreeSet<&str> = quoted.filter(|name| name.contains('_')).collect();
     let mut found = Vec::new();
     for path in crates.iter().flat_map(|c| files(&c.join("proofs"), "antt")) {
         let (krate, _) = name_of(&path, "proofs");
