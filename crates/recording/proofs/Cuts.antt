@@ -1,18 +1,17 @@
 -- A recording that is cut at a frame is two. Assumes nothing.
-use Rattle.rules.proofs.Common.{ℕ, suc, ◌+◌, ◌-◌, ◌*◌, ◌/◌, ◌%◌, ◌^◌, ◌≤◌, ◌<◌, Bool, true, false, cond, List, [], ◌∷◌}
+use Rattle.rules.proofs.Common.{ℕ, suc, ◌+◌, ◌-◌, ◌*◌, ◌/◌, ◌%◌, ◌^◌, ◌≤◌, ◌<◌, Bool, cond, List, [], ◌∷◌}
 use Rattle.rules.proofs.Common.{◌++◌, ◌≡◌, refl, sym, ap, ◌∙◌, eqb, length}
 use Rattle.rules.proofs.Common.{take, drop, length-take, length-drop}
 use native.Mathlib.Nat.{add-zero}
 use native.Mathlib.Omega.{arith}
 use borrow.Author.Tests.{ne_eqb}
 use lib.ListN.{take-append-drop}
-use Rattle.rules.specs.Lists.{Bytes}
 use Rattle.sides.specs.Sides.{number_of}
 use Rattle.sheet.specs.Sheet.{records_of}
 use Rattle.sheet.proofs.Laying.{records_append}
 use Rattle.sheet.proofs.Back.{drop_bytes}
 use Rattle.recording.specs.Recording.{Recording, frames_of, entry, entries_from, Good}
-use Rattle.recording.specs.Laws.{frames_before, cut_before, cut_after, records_of_all, InTwo, Cuts}
+use Rattle.recording.specs.Laws.{frames_before, cut_before, cut_after, InTwo, Cuts}
 use Rattle.recording.proofs.Told.{take_bytes, told_all}
 
 -- ---- numbers go on

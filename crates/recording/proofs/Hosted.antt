@@ -9,12 +9,12 @@ use Rattle.checksum.specs.Checksum.{crc32}
 use Rattle.sides.specs.Sides.{number_of}
 use Rattle.sheet.specs.Sheet.{records_of, trailer_of}
 use Rattle.sheet.specs.Laws.{together}
-use Rattle.recording.specs.Recording.{Recording, frames_of, entries_from, head_for, chunk_for, recording_bytes, Good}
+use Rattle.recording.specs.Recording.{frames_of, entries_from, head_for, chunk_for}
 use Rattle.recording.specs.Verdict.{size_in, frames_in, behind, records_from, trailer_in, said_by, begins, is_size}
 use Rattle.recording.specs.Verdict.{how_many, file_faults, verdict_of}
 use Rattle.recording.specs.Judge.{fed, begin, tell_of}
 use Rattle.recording.specs.Numbers.{judge_in, judge_numbers, judge_laid, told_in, verdict_laid}
-use Rattle.recording.specs.Laws.{after_calls, AllBytes, Is, held_after, host_told, JudgeBuffers, told_of, HostAll}
+use Rattle.recording.specs.Laws.{after_calls, AllBytes, held_after, host_told, JudgeBuffers, HostAll}
 use Rattle.recording.specs.Laws.{Accepted, HostOnly}
 use Rattle.recording.specs.declared.Front.{Front}
 use Rattle.recording.specs.declared.Judge.{Judge}

@@ -11,7 +11,7 @@ const LEFT: u32 = 0x5446_454c;
 const RGHT: u32 = 0x5448_4752;
 
 // A side of the workshop.
-#[derive(Drop)]
+#[derive(Clone, Copy)]
 pub enum Side {
     Left,
     Right,
