@@ -136,15 +136,14 @@ fn faults(function: &Function, excepted: &BTreeSet<String>) -> Vec<String> {
         found.push("it has no `ensures`; state what it returns and leaves, by a definition of specs/".into());
         return found;
     };
-    let says_what_is_returned =
-        promise.split_once("λ ").and_then(|(_, said)| said.split_once(". ")).is_some_and(|(it, said)| {
-            it != "_" && said.split(|c: char| c.is_whitespace() || "(),".contains(c)).any(|word| word == it)
-        });
+    let words: BTreeSet<&str> = promise.split(|c: char| c.is_whitespace() || "(){},".contains(c)).collect();
+    let says_what_is_returned = words.iter().any(|word| *word == "result" || word.starts_with("result."));
     if function.returns && !says_what_is_returned {
         found.push("its `ensures` does not speak of what it returns".into());
     }
     for (name, of) in function.parameters.iter().filter(|(_, of)| of.starts_with("&mut ")) {
-        if ![format!("({name} .exit)"), format!("(«{name}» .exit)")].iter().any(|exit| promise.contains(exit)) {
+        let left = [format!("{name}.new"), format!("«{name}».new")];
+        if !words.iter().any(|word| left.iter().any(|new| word == new || word.starts_with(&format!("{new}.")))) {
             found.push(format!("its `ensures` does not say what `{name}: {of}` holds at exit"));
         }
     }
@@ -202,11 +201,11 @@ fn calls(functions: &[Function]) -> Vec<String> {
             && (named || function.head.split(|c: char| !c.is_alphanumeric()).any(|word| word == "BENCHES"))
     };
     let promised = |function: &Function| {
-        let (_, promise) = function.head.split_once("ensures { λ r. ⌜ Worked")?;
+        let (_, promise) = function.head.split_once("ensures { Worked")?;
         let promise = promise.strip_prefix("Both").unwrap_or(promise).split_whitespace().collect::<Vec<_>>().join(" ");
-        let (name, given) = promise.strip_prefix("(handed side (now («record» .entry)) (")?.split_once(' ')?;
-        let whole = given.starts_with("BENCHES side (now («record» .entry)) (now (store .entry)) ");
-        let left = promise.contains(" (r, now («record» .exit)) (now (store .exit)) ");
+        let (name, given) = promise.strip_prefix("(handed side «record».old (")?.split_once(' ')?;
+        let whole = given.starts_with("BENCHES side «record».old store.old ");
+        let left = promise.contains(" (result, «record».new) store.new ");
         (whole && left && served.contains(name)).then_some(())
     };
     let without = functions.iter().filter(touches).filter(|function| promised(function).is_none());
