@@ -56,7 +56,7 @@ fn row_back(index: usize, k: usize) -> usize
 }
 
 // What is made of three cepstra at one place.
-#[derive(Drop)]
+#[derive(Clone, Copy)]
 enum Delta {
     // Their sum.
     Smoothed,

@@ -1,6 +1,7 @@
 // The arithmetic of a heard frame, from features.rs and denoise.rs, on plain slices. Each public function refuses with
 // 5, and changes nothing, exactly if a length does not fit.
 #![tactic(auto)]
+
 ghost use Rattle.std.specs.Prelude.{◌≡◌, length};
 ghost use Rattle.rules.specs.Leaf.{Leaf, ◌leaving◌};
 ghost use Rattle.features.specs.Silence.{energy, sound_of};

@@ -87,7 +87,7 @@ pub(crate) fn filter(
     requires pitch_filter_fits { PitchFilterFits (length x.old) (length p.now) (length gains.now) (length exp.now)
         (length ex.now)
         (length ep.now) }
-    requires r_len { (length r.old ≡ 22) × (length rf.old ≡ 481) }
+    requires places_fit { (length r.old ≡ 22) × (length rf.old ≡ 481) }
     ensures { x.new
         ≡ pitch_filtered x.old p.now gains.now exp.now
         ex.now ep.now }
