@@ -18,7 +18,8 @@ abbrev added : List ℕ → Float → ℕ → Float → Float
 added col x j a = a ⊕ of_byte (get_or col j 0) ⊗ x
 
 abbrev pub two_step : List ℕ → Float → List ℕ → Float → ℕ → List Float → List Float
-two_step first x second y j out = set out j (at out j ⊕ of_byte (get_or first j 0) ⊗ x ⊕ of_byte (get_or second j 0) ⊗ y)
+two_step first x second y j out =
+    set out j (at out j ⊕ of_byte (get_or first j 0) ⊗ x ⊕ of_byte (get_or second j 0) ⊗ y)
 
 pub two_columns : (out : List Float) (first : List ℕ) (x : Float) (second : List ℕ) (y : Float) {r : List Float}
     → r ≡ loop (length out) (two_step first x second y) out → r ≡ add_column (add_column out first x) second y
@@ -44,7 +45,10 @@ column_alone weights stride offset input now i h fits =
     (λ j s b.
     let rows = fits.rows in
     let all = fits.columns in
-    rw (byte_of_lem weights a (length weights) j (omega arith), byte_of_lem weights a (i * stride + stride) j (omega arith)))
+    rw (
+      byte_of_lem weights a (length weights) j (omega arith),
+      byte_of_lem weights a (i * stride + stride) j (omega arith),
+    ))
 
 -- and two turns of `mul_add`
 pub two_turns : (weights : List ℕ) (stride offset : ℕ) (input out : List Float) (i : ℕ) {now next : List Float}

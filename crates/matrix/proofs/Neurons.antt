@@ -55,7 +55,8 @@ module _ (weights : List ℕ) (stride offset : ℕ) (input out : List Float) whe
       → mul_add out weights stride offset input ≡ tab (length out) (neuron out weights stride offset input)
   mul_add_tab fits =
       let long = length_mul_add out weights stride offset input in
-      ext_get_or nan (mul_add out weights stride offset input) (tab (length out) (neuron out weights stride offset input))
+      ext_get_or nan (mul_add out weights stride offset input)
+      (tab (length out) (neuron out weights stride offset input))
       (long ∙ sym (length_tab (length out) _))
       (λ i h.
       let b : i < length out = rw long at h in
@@ -119,7 +120,8 @@ pub block_ordered : (kept out now : List Float) (a : ℕ) {m₁ m₂ m₃ m₄ :
     → now ≡ tab a (λ j. at kept (spot j)) ++ drop a out
     → m₁ ≡ store_four now a (at kept a) (at kept (a + 4)) (at kept (a + 8)) (at kept (a + 12))
     → m₂ ≡ store_four m₁ (a + 4) (at kept (a + 1)) (at kept (a + 1 + 4)) (at kept (a + 1 + 8)) (at kept (a + 1 + 12))
-    → m₃ ≡ store_four m₂ (a + 4 + 4) (at kept (a + 2)) (at kept (a + 2 + 4)) (at kept (a + 2 + 8)) (at kept (a + 2 + 12))
+    → m₃ ≡ store_four m₂ (a + 4 + 4) (at kept (a + 2)) (at kept (a + 2 + 4)) (at kept (a + 2 + 8))
+    (at kept (a + 2 + 12))
     → m₄ ≡ store_four m₃ (a + 4 + 4 + 4) (at kept (a + 3)) (at kept (a + 3 + 4)) (at kept (a + 3 + 8))
     (at kept (a + 3 + 12))
     → m₄ ≡ tab (a + 4 + 4 + 4 + 4) (λ j. at kept (spot j)) ++ drop (a + 4 + 4 + 4 + 4) out

@@ -52,7 +52,12 @@ four_at out place = record { a = at out place; b = at out (place + 1); c = at ou
 unfoldable pub sixteen_at : List Float → ℕ → Sixteen
 unfolding four_at
 sixteen_at out place =
-    record { p = four_at out place; q = four_at out (place + 4); r = four_at out (place + 8); s = four_at out (place + 12) }
+    record {
+      p = four_at out place;
+      q = four_at out (place + 4);
+      r = four_at out (place + 8);
+      s = four_at out (place + 12);
+    }
 
 -- Stores four neighbouring numbers.
 unfoldable pub store_four : List Float → ℕ → Float → Float → Float → Float → List Float

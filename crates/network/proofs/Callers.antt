@@ -116,7 +116,8 @@ module _ (gains voice vad noise denoise : List Float) (model : List ℕ) (featur
       → length (new ++ drop n state) ≡ length state
   moved n state new h e = simp (length-append, length-drop, e, length-take) (omega arith)
 
-  done_kept : Fit → (m : Model) → read_of model ≡ read.Good m → Kept (layers_in_place model m vad noise denoise features)
+  done_kept : Fit → (m : Model) → read_of model ≡ read.Good m
+      → Kept (layers_in_place model m vad noise denoise features)
   unfolding layers_in_place six_layers
   done_kept fit m good =
       let few = few model m good in
@@ -146,7 +147,8 @@ module _ (gains voice vad noise denoise : List Float) (model : List ℕ) (featur
       (λ c. of (fits (right lengths c.0)) (read_of model) refl)
     where
       of : Fit → (r : Reading) → read_of model ≡ r
-          → Kept (by_reading r (λ m. record { answer = Done; layers = layers_in_place model m vad noise denoise features })
+          → Kept
+          (by_reading r (λ m. record { answer = Done; layers = layers_in_place model m vad noise denoise features })
           (λ number layer. outcome_of (Misread number layer) gains voice vad noise denoise)).layers
       of fit (read.Good m) e = done_kept fit m e
       of fit (read.Refused number layer) e = as_held

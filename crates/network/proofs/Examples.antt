@@ -33,6 +33,6 @@ examples :
     map (to_bits binary32) (dense Tanh ++ gru Tanh ++ dense Sigmoid ++ gru Sigmoid ++ dense Relu ++ gru Relu)
     ≡ (0xBE9B59C4 ∷ 0xBE641C22 ∷ 0xBE7CE15B ∷ 0xBEA03C37 ∷ 0x3ED83983 ∷ 0x3EE31F9F ∷ 0x3E718EEA ∷ 0xBE170F44
     ∷ 0 ∷ 0 ∷ 0x3E0CD803 ∷ 0xBE9FD9CD ∷ [])
-unfolding dense_of gate_sums gru_of mul_add loop tansig_in sigmoid_in tansig is_nan lt to_bits of_bits neg add sub mul of_int
-    to_unsigned
+unfolding dense_of gate_sums gru_of mul_add loop tansig_in sigmoid_in tansig is_nan lt to_bits of_bits neg add sub mul
+    of_int to_unsigned
 examples = refl

@@ -55,7 +55,8 @@ pub gru_joined : (weights recurrent bias : List ℕ) (activation : Activation) (
     → nr ≡ length state → b ≡ gate_sums weights recurrent bias input nr (length state) state → nb ≡ length state
     → r ≡ loop nb (reset_step state) b
     → nh ≡ length state → h ≡ gate_sums weights recurrent bias input nh (2 * length state) r
-    → s ≡ loop (length state) (blend_step activation z h) state → s ≡ gru_of weights recurrent bias activation input state
+    → s ≡ loop (length state) (blend_step activation z h) state
+    → s ≡ gru_of weights recurrent bias activation input state
 unfolding gru_of
 gru_joined weights recurrent bias activation input state lz ea la ez lr eb lb er lh eh es =
     es ∙ rw (ez, ea, eh, er, eb, la, lz, lb, lr, lh)

@@ -16,7 +16,8 @@ use Rattle.network.specs.Layers.{weights_scale, activated, activate_step, update
 use Rattle.network.specs.Private.{times_step, mix_step}
 
 -- the sums scaled, and then mapped
-scaled : (g : Float → Float) (sums : List Float) {a r : List Float} → a ≡ map (λ x. weights_scale ⊗ x) sums → r ≡ map g a
+scaled : (g : Float → Float) (sums : List Float) {a r : List Float} → a ≡ map (λ x. weights_scale ⊗ x) sums
+    → r ≡ map g a
     → r ≡ map (λ x. g (weights_scale ⊗ x)) sums
 scaled g sums made e = e ∙ ap (map g) made ∙ map-map g (λ x. weights_scale ⊗ x) sums
 
@@ -49,7 +50,8 @@ reset_joined state sums {gates} made long e =
       long,
       made,
     )
-    (sym (fused nan (λ j x. sigmoid_approx (weights_scale ⊗ x)) (λ j x. at state j ⊗ x) (length sums) sums (omega arith)))
+    (sym
+    (fused nan (λ j x. sigmoid_approx (weights_scale ⊗ x)) (λ j x. at state j ⊗ x) (length sums) sums (omega arith)))
 
 at_map : (f : Float → Float) (xs : List Float) (i : ℕ) → i < length xs → at (map f xs) i ≡ f (at xs i)
 at_map f xs i inside =

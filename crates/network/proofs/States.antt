@@ -18,7 +18,8 @@ use Rattle.rules.proofs.Places.{Apart, length_get, length_put, get_put, get_put_
 use Rattle.model.specs.declared.Model.{Model}
 use Rattle.network.specs.declared.Computed.{Computed}
 use Rattle.network.specs.Laws.{SideBySide}
-use Rattle.network.specs.Compute.{dense_at, gru_at, six_layers, layers_in_place, vad_in, noise_in, denoise_in, layered_on}
+use Rattle.network.specs.Compute.{dense_at, gru_at, six_layers, layers_in_place, vad_in, noise_in, denoise_in}
+use Rattle.network.specs.Compute.{layered_on}
 use Rattle.network.specs.Compute.{Outcome, outcome_of, outcome_on}
 use Rattle.network.specs.Private.{state_at, Lengths}
 use Rattle.network.proofs.Lengths.{length_gru_at}
@@ -171,7 +172,8 @@ module _ (s v n d : List Float) {a b c : ℕ} (fa : a ≤ 127) (fb : b ≤ 127) 
         denoise_left = denoise_in_lem three w₃
             ∙ get_put_front denoise_place c two d (omega (arith, w₂)) (omega arith) ld
             ∙ ap (λ (t : List Float). d ++ drop c t)
-            (past_b denoise_place (inl (omega arith)) ∙ past_a denoise_place (omega arith) ∙ sym (denoise_in_lem s whole));
+            (past_b denoise_place (inl (omega arith)) ∙ past_a denoise_place (omega arith)
+            ∙ sym (denoise_in_lem s whole));
       }
 
 module _ (bytes : List ℕ) (m : Model) (s features : List Float) (whole : length s ≡ 384)

@@ -113,5 +113,6 @@ computed gains voice vad noise denoise model features =
     = (length gains, 22) ∷ (length voice, 1) ∷ (length vad, 128)
     ∷ (length noise, 128) ∷ (length denoise, 128) ∷ (length features, 42) ∷ [] in
     refusing (5 when wrong lengths ∷ []) (λ n. refused (Refused n))
-    (by_reading (read_of model) (λ m. record { answer = Done; layers = layers_in_place model m vad noise denoise features })
+    (by_reading (read_of model)
+    (λ m. record { answer = Done; layers = layers_in_place model m vad noise denoise features })
     (λ number layer. refused (Misread number layer)))

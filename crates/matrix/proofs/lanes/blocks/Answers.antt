@@ -26,7 +26,8 @@ pub overflow_add-next : goal.overflow_add-next
 overflow_add-next c = omega (arith, more_room c.loop-a-test.true c.loop-a.invariant.1 c.requires.even)
 
 pub overflow_add-place : goal.overflow_add-place
-overflow_add-place c = omega (arith, more_room c.loop-a-test.true c.loop-a.invariant.1 c.requires.even, c.requires.fits.rows)
+overflow_add-place c =
+    omega (arith, more_room c.loop-a-test.true c.loop-a.invariant.1 c.requires.even, c.requires.fits.rows)
 
 pub take_sixteen-requires : goal.take_sixteen-requires
 take_sixteen-requires c = more_room c.loop-a-test.true c.loop-a.invariant.1 c.requires.even
@@ -34,19 +35,44 @@ take_sixteen-requires c = more_room c.loop-a-test.true c.loop-a.invariant.1 c.re
 pub sums-s-requires : goal.sums-s-requires
 sums-s-requires c =
     let pre = c.requires in
-    record { inside = omega (arith, more_room c.loop-a-test.true c.loop-a.invariant.1 c.requires.even, pre.fits.rows); whole = pre.fits.columns }
+    record {
+      inside = omega (arith, more_room c.loop-a-test.true c.loop-a.invariant.1 c.requires.even, pre.fits.rows);
+      whole = pre.fits.columns;
+    }
 
 pub give-requires : goal.give-requires
-give-requires c = omega (arith, more_room c.loop-a-test.true c.loop-a.invariant.1 c.requires.even, c.requires.places, c.loop-a.invariant.2)
+give-requires c = omega
+    (arith, more_room c.loop-a-test.true c.loop-a.invariant.1 c.requires.even, c.requires.places, c.loop-a.invariant.2)
 
 pub give-requires-in-loop-a : goal.give-requires-in-loop-a
-give-requires-in-loop-a c = omega (arith, more_room c.loop-a-test.true c.loop-a.invariant.1 c.requires.even, c.requires.places, c.loop-a.invariant.2, c.give.auto.to)
+give-requires-in-loop-a c = omega (
+  arith,
+  more_room c.loop-a-test.true c.loop-a.invariant.1 c.requires.even,
+  c.requires.places,
+  c.loop-a.invariant.2,
+  c.give.auto.to,
+)
 
 pub give-requires-in-loop-a-2 : goal.give-requires-in-loop-a-2
-give-requires-in-loop-a-2 c = omega (arith, more_room c.loop-a-test.true c.loop-a.invariant.1 c.requires.even, c.requires.places, c.loop-a.invariant.2, c.give-in-loop-a.auto.to, c.give.auto.to)
+give-requires-in-loop-a-2 c = omega (
+  arith,
+  more_room c.loop-a-test.true c.loop-a.invariant.1 c.requires.even,
+  c.requires.places,
+  c.loop-a.invariant.2,
+  c.give-in-loop-a.auto.to,
+  c.give.auto.to,
+)
 
 pub give-requires-in-loop-a-3 : goal.give-requires-in-loop-a-3
-give-requires-in-loop-a-3 c = omega (arith, more_room c.loop-a-test.true c.loop-a.invariant.1 c.requires.even, c.requires.places, c.loop-a.invariant.2, c.give-in-loop-a-2.auto.to, c.give-in-loop-a.auto.to, c.give.auto.to)
+give-requires-in-loop-a-3 c = omega (
+  arith,
+  more_room c.loop-a-test.true c.loop-a.invariant.1 c.requires.even,
+  c.requires.places,
+  c.loop-a.invariant.2,
+  c.give-in-loop-a-2.auto.to,
+  c.give-in-loop-a.auto.to,
+  c.give.auto.to,
+)
 
 pub loop-a-smaller : goal.loop-a-smaller
 loop-a-smaller c = omega (arith, more_room c.loop-a-test.true c.loop-a.invariant.1 c.requires.even)

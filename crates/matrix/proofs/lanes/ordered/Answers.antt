@@ -44,8 +44,17 @@ pub overflow_add-a-in-loop-a-2 : goal.overflow_add-a-in-loop-a-2
 overflow_add-a-in-loop-a-2 c = omega arith
 
 pub back-requires-in-loop-a-3 : goal.back-requires-in-loop-a-3
-back-requires-in-loop-a-3 c =
-    (omega (arith, room c.loop-a-test.true c.requires.0 c.loop-a.invariant.1 c.requires.1, c.loop-a.invariant.2, c.back-in-loop-a-2.auto.out, c.back-in-loop-a.auto.out, c.back.auto.out), omega (arith, room c.loop-a-test.true c.requires.0 c.loop-a.invariant.1 c.requires.1, c.requires.0))
+back-requires-in-loop-a-3 c = (
+  omega (
+    arith,
+    room c.loop-a-test.true c.requires.0 c.loop-a.invariant.1 c.requires.1,
+    c.loop-a.invariant.2,
+    c.back-in-loop-a-2.auto.out,
+    c.back-in-loop-a.auto.out,
+    c.back.auto.out,
+  ),
+  omega (arith, room c.loop-a-test.true c.requires.0 c.loop-a.invariant.1 c.requires.1, c.requires.0),
+)
 
 pub overflow_add-a-in-loop-a-3 : goal.overflow_add-a-in-loop-a-3
 overflow_add-a-in-loop-a-3 c = omega arith

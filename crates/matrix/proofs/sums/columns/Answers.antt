@@ -47,8 +47,10 @@ slice_bounds-add_two-start-in-loop-i c = omega (arith, two_fit c.loop-i.i c.loop
 
 pub add_two-requires : goal.add_two-requires
 unfolding mul_add
-add_two-requires c =
-    (omega (arith, two_fit c.loop-i.i c.loop-i-test.true c.args.stride), omega (arith, two_fit c.loop-i.i c.loop-i-test.true c.args.stride))
+add_two-requires c = (
+  omega (arith, two_fit c.loop-i.i c.loop-i-test.true c.args.stride),
+  omega (arith, two_fit c.loop-i.i c.loop-i-test.true c.args.stride),
+)
 
 pub loop-i-preserved : goal.loop-i-preserved
 loop-i-preserved c =

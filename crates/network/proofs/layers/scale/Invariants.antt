@@ -7,4 +7,5 @@ use Rattle.network.specs.Layers.{weights_scale}
 use Rattle.network.proofs.layers.scale.Given as goal
 
 abbrev pub invariant-loop-j : goal.invariant-loop-j
-invariant-loop-j l = (l.j ≤ l.j-end) × (l.j-end ≡ length l.initial.xs) × Mapping (λ x. weights_scale ⊗ x) nan l.initial.xs l.j l.xs
+invariant-loop-j l = (l.j ≤ l.j-end) × (l.j-end ≡ length l.initial.xs)
+    × Mapping (λ x. weights_scale ⊗ x) nan l.initial.xs l.j l.xs
