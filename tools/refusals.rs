@@ -65,7 +65,9 @@ fn in_order(rows: &[Refusal]) -> Vec<String> {
 /// The numbers that a definition refuses with, as `31 when …` or `40 leaving …`, and where.
 fn refused_with() -> BTreeMap<u32, String> {
     let mut found = BTreeMap::new();
-    for path in files(Path::new("crates"), "antt").iter().filter(|path| path.iter().any(|part| part == "specs")) {
+    // what rt keeps in out/ has copies
+    let is_of_specs = |path: &&PathBuf| path.iter().nth(2).is_some_and(|part| part == "specs");
+    for path in files(Path::new("crates"), "antt").iter().filter(is_of_specs) {
         for line in read(path).lines().map(|line| line.split("--").next().unwrap()) {
             let words: Vec<&str> =
                 line.split(|c: char| c.is_whitespace() || "()".contains(c)).filter(|word| !word.is_empty()).collect();
