@@ -1,7 +1,8 @@
 #!/usr/bin/env bash
 # Says why each must-fail edit was refused: the first error of its check, as `rt ci` and `rt must-fail` tell it on the
 # edit's line. Give it what one of them said: tools/must_fail_reasons.sh FILE [CRATE..]; with names of crates only their
-# edits. Exit status 1 if an edit shows nothing, or was not tried. An edit shows nothing if
+# edits. Exit status 1 if an edit shows nothing, was not tried (NOLOG) or not refused (PASSED). An edit shows nothing if
+#   BAD     it can't be applied, or what it makes can't be read;
 #   PROOF   it changes a proof: any change of a proof is refused, whatever it means;
 #   ITSELF  the first error is in a file that it changes, or in specs/, as a syntax error or a wrong type is: it is
 #           wrong by itself, and no fact was asked;
@@ -34,6 +35,8 @@ for edit in crates/*/must-fail/*.edit; do
     kind=fact
     if [[ $'\n'$changed == *$'\n'proofs/* ]]; then kind=PROOF
     elif [ -z "$line" ]; then kind=NOLOG first='it was not tried'
+    elif [[ $line == 'BAD EDIT'* ]]; then kind=BAD first=$line
+    elif [[ $line == 'NOT REFUSED'* ]]; then kind=PASSED first=$line
     elif [[ $line != refused* ]]; then kind=NOLOG first=$line
     elif [[ $line =~ $shape ]]; then kind=SHAPE first=$line
     elif [[ $line = *'only by a limit'* ]]; then kind=LIMIT first=$line

@@ -2,8 +2,8 @@
 # Shows that the gate's checks fail when they should. Each trial copies the tree, makes one bad change in the copy, runs
 # one check there and wants it to fail with the words that name the fault. Without the change the check must succeed.
 #   tools/trials.sh           the quick trials, a few seconds in all; the gate runs them
-#   tools/trials.sh --slow    those that prove or compile as well, some minutes. Needs the crates proved in target/, the
-#                             static library and cargo. With names (prover, without_a_group, lower_limit) these alone
+#   tools/trials.sh --slow    those that prove or compile as well, some minutes. Needs rt, the static library and cargo.
+#                             With names (prover, without_a_group, lower_limit) these alone
 set -euo pipefail
 cd "$(dirname "$0")/.."
 root=$PWD
@@ -11,10 +11,19 @@ scratch=$(mktemp -d)
 trap 'rm -rf "$scratch"' EXIT
 passed=0 failed=0
 
+# Copies these crates into a folder, but for what rt keeps in their out/.
+copy_crates() {
+    local to=$1
+    shift
+    mkdir -p "$to"
+    find "$@" -type f -not -path 'crates/*/out/*' -print0 | xargs -0 cp --parents -t "$to"
+}
+
 # A copy of what the checks read, the compiled checkers among it.
 copy() {
     mkdir -p "$scratch/all/host" "$scratch/all/target"
-    cp -r crates crates.txt docs tools bindings "$scratch/all"
+    copy_crates "$scratch/all" crates
+    cp -r crates.txt docs tools bindings "$scratch/all"
     cp -r host/src "$scratch/all/host"
     cp -r target/tools "$scratch/all/target"
 }
@@ -79,15 +88,15 @@ columns() {
 # ---- a claim that has a premise
 
 impossible_premise() {
-    replace crates/checksum/proofs/Apart.antt 'pub same-end : SameEnd' 'pub same-end : (never : ⊥) → SameEnd'
+    replace crates/checksum/proofs/Apart.antt 'pub same_end : SameEnd' 'pub same_end : (never : ⊥) → SameEnd'
 }
 premise_of_a_module() {
     local file=crates/checksum/proofs/Apart.antt
-    grep -q '^pub same-end : SameEnd$' $file || return 1
+    grep -q '^pub same_end : SameEnd$' $file || return 1
     # the law and what follows it, in a module with a parameter
-    sed -i -e '/^pub same-end : SameEnd$/,$ s/^./  &/' -e 's/^  pub same-end /module _ (never : ⊥) where\n&/' $file
+    sed -i -e '/^pub same_end : SameEnd$/,$ s/^./  &/' -e 's/^  pub same_end /module _ (never : ⊥) where\n&/' $file
 }
-other_statement() { replace docs/PROMISES.md '| `our-calls` |' '| `refused-leaves` |'; }
+other_statement() { replace docs/PROMISES.md '| `our_calls` |' '| `refused_leaves` |'; }
 
 # ---- a public function that promises nothing, or that no claim is about
 
@@ -97,7 +106,7 @@ sneak() {
     cat >>crates/export/src/of_whole.rt <<'RATTLE'
 
 // `store` is the one of all benches.
-#[no_mangle]
+#[unsafe(no_mangle)]
 pub extern "C" fn tuppence_sneak(store: &mut [f32]) -> u32
 RATTLE
     [ -z "${1:-}" ] || echo "    $1" >>crates/export/src/of_whole.rt
@@ -111,11 +120,11 @@ RATTLE
 RATTLE
 }
 no_ensures() { sneak; }
-store_not_told() { sneak 'ensures { λ r. ⌜ r ≡ 0 ⌝ }'; }
-no_case_of_call() { sneak 'ensures { λ r. ⌜ (r ≡ 0) × (now (store .exit) ≡ sneaked (now (store .entry))) ⌝ }'; }
+store_not_told() { sneak 'ensures { result ≡ 0 }'; }
+no_case_of_call() { sneak 'ensures { (result ≡ 0) × (store.new ≡ sneaked store.old) }'; }
 a_requires() {
-    local promise='    ensures { λ r. ⌜ r ≡ crc32 before (now (bytes .entry)) ⌝ }'
-    replace crates/checksum/src/lib.rt "$promise" "    requires { ⌜ before < 7 ⌝ }"$'\n'"$promise"
+    local promise='    ensures { result ≡ crc32 before bytes.now }'
+    replace crates/checksum/src/lib.rt "$promise" "    requires { before < 7 }"$'\n'"$promise"
 }
 not_listed() { replace docs/PROMISES.md '`crc32(before, bytes)`' '`crc32(bytes)`'; }
 
@@ -135,43 +144,45 @@ long_line() {
     printf '// %s\n' "$(printf 'long %.0s' {1..40})" >>crates/checksum/src/lib.rt
 }
 
-# ---- edits that show nothing: what the prover says of each was taken down from a run of it
+# ---- edits that show nothing: what rt says of each was taken down from a run of it
 
-# log EDIT ERROR: the first error of an edit's check.
-log() {
-    mkdir -p "target/must-fail/checksum/$1"
-    printf '%s\n' "/elsewhere/target/must-fail/checksum/$1/$2" >"target/must-fail/checksum/$1/.log"
-}
-# edit FILE ERROR: an edit that changes this file.
+# said EDIT WORDS: what rt says of an edit.
+said() { printf 'rt: must-fail checksum/%s.edit: %s\n' "$1" "$2" >>said; }
+# edit FILE WORDS: an edit that changes this file.
 edit() {
     printf 'file: %s\nold: x\nnew: y\n' "$1" >crates/checksum/must-fail/bad.edit
-    log bad "$2"
+    said bad "$2"
 }
+refused='refused, as it must be'
 # the first time, the crate's own edits were refused for a fact
 reasons() {
     local own
-    if [ ! -e target/must-fail ]; then
+    if [ ! -e said ]; then
         for own in crates/checksum/must-fail/*.edit; do
-            log "$(basename "$own" .edit)" 'proofs/crc32/Proof.antt:9:13: error: `returns`: the two types first differ'
+            said "$(basename "$own" .edit)" "$refused: ./proofs/crc32/Answers.antt:9:13: error: \`returns\`: as printed"
         done
     fi
-    tools/must_fail_reasons.sh checksum
+    tools/must_fail_reasons.sh said checksum
 }
 syntax_error() {
-    edit specs/Checksum.antt 'specs/Checksum.antt:25:1: error: this line starts at column 1, but the `(` is still open'
+    edit specs/Checksum.antt 'BAD EDIT: the prover cannot read the edited text, so no contract was tried: ./specs/C'
 }
 type_error() {
-    edit specs/Checksum.antt 'specs/Checksum.antt:21:23: error: `inverted`: expected type `ℕ`, but this has `List ℕ`'
+    edit specs/Checksum.antt "$refused: ./specs/Checksum.antt:24:31: error: \`inverted\`: expected type \`ℕ\`, but this"
 }
 of_a_proof() {
-    edit proofs/Apart.antt 'proofs/Apart.antt:55:45: error: `entry-told`: expected type `T (each 256 told)`'
+    edit proofs/Apart.antt "$refused: ./proofs/Apart.antt:56:23: error: \`entry_told\`: expected type \`T (each 256"
 }
+name_gone() {
+    edit src/lib.rt "$refused (only because a proof file names what the edit took away, so this says little of the"
+}
+not_refused() { edit src/lib.rt 'NOT REFUSED: the crate is still proved with this edit'; }
 not_tried() { printf 'file: src/lib.rt\nold: x\nnew: y\n' >crates/checksum/must-fail/bad.edit; }
 
 quick() {
-    trial impossible_premise 'Apart.antt: same-end' impossible_premise definitions unstated
-    trial premise_of_a_module 'Apart.antt: same-end' premise_of_a_module definitions unstated
-    trial other_statement 'refused-leaves is not a proof of what is stated there' other_statement definitions unstated
+    trial impossible_premise 'Apart.antt: same_end' impossible_premise definitions unstated
+    trial premise_of_a_module 'Apart.antt: same_end' premise_of_a_module definitions unstated
+    trial other_statement 'refused_leaves is not a proof of what is stated there' other_statement definitions unstated
     trial no_ensures 'tuppence_sneak: it has no `ensures`' no_ensures public contracts
     trial store_not_told 'does not say what `store: &mut [f32]` holds at exit' store_not_told public contracts
     trial no_case_of_call 'tuppence_sneak: it takes a store or a record and is not a case' no_case_of_call public calls
@@ -182,35 +193,36 @@ quick() {
     trial box_says_otherwise 'of 15' box_says_otherwise refusals
     trial other_constant 'differ' other_constant header
     trial long_line 'shorten the new ones' long_line columns
-    trial syntax_error 'ITSELF checksum/bad' syntax_error reasons
+    trial syntax_error 'BAD    checksum/bad' syntax_error reasons
     trial type_error 'ITSELF checksum/bad' type_error reasons
     trial of_a_proof 'PROOF  checksum/bad' of_a_proof reasons
+    trial name_gone 'SHAPE  checksum/bad' name_gone reasons
+    trial not_refused 'PASSED checksum/bad' not_refused reasons
     trial not_tried 'NOLOG  checksum/bad' not_tried reasons
 }
 
 # ---- slow ones
 
-# The same three edits, tried by the prover itself, in a tree of two crates.
+# Three of these edits, tried by the prover itself, in a tree of two crates.
 prover() {
     local tree=$scratch/prover name
-    mkdir -p "$tree/crates" "$tree/tools" "$tree/target/rlib" "$tree/target/stamp"
-    cp -r crates/rules crates/checksum "$tree/crates"
+    copy_crates "$tree" crates/rules crates/checksum
+    mkdir -p "$tree/tools"
     cp tools/must_fail_reasons.sh "$tree/tools"
-    cp -r target/rlib/{rules,checksum}.rlib "$tree/target/rlib"
-    cp -r target/stamp/{rules,checksum} "$tree/target/stamp"
     printf 'rules:\nchecksum: rules\n' >"$tree/crates.txt"
     rm "$tree"/crates/checksum/must-fail/*.edit
     (
         cd "$tree/crates/checksum/must-fail"
         printf 'file: specs/Checksum.antt\nold: crc32 :\nnew: crc32 : (\n' >syntax.edit
-        printf 'file: specs/Checksum.antt\nold: bitXor c 0xFFFFFFFF\nnew: bitXor c table\n' >type.edit
+        printf 'file: specs/Checksum.antt\nold: bit_xor c 0xFFFFFFFF\nnew: bit_xor c table\n' >type.edit
         printf 'file: proofs/Apart.antt\nold: 0 ∷ 65 ∷ 195\nnew: 0 ∷ 66 ∷ 195\n' >proof.edit
-        cd "$tree"
-        rt must-fail checksum
-    ) || { echo "TRIAL prover: rt refused none of the edits, or could not run"; failed=$((failed + 1)); return; }
-    for name in 'ITSELF checksum/syntax' 'ITSELF checksum/type' 'PROOF  checksum/proof'; do
+    )
+    # a bad edit fails it
+    (cd "$tree" && rt must-fail checksum >said) || true
+    cat "$tree/said"
+    for name in 'BAD    checksum/syntax' 'ITSELF checksum/type' 'PROOF  checksum/proof'; do
         # the tool fails, as it must; what counts is what it says
-        if { "$tree/tools/must_fail_reasons.sh" || true; } | grep -qF -- "$name"; then
+        if { "$tree/tools/must_fail_reasons.sh" "$tree/said" || true; } | grep -qF -- "$name"; then
             echo "trial prover, $name: refused"
             passed=$((passed + 1))
         else
@@ -243,15 +255,17 @@ without_a_group() {
 # model_list with a limit of 60,000 bytes: the program that is given 65,536 notices.
 lower_limit() {
     local tree=$scratch/limit
-    mkdir -p "$tree/target"
-    cp -r crates crates.txt "$tree"
-    cp -r target/rlib target/stamp "$tree/target"
-    (cd "$tree" && replace crates/listing/src/lib.rt 'if 65536 < n {' 'if 60000 < n {')
-    if (cd "$tree" && rt check model_list_limit) >"$scratch/limit.log" 2>&1; then
+    copy_crates "$tree" crates
+    cp crates.txt "$tree"
+    (cd "$tree" && replace crates/listing/src/lib.rt 'if 65536 < bytes.len() {' 'if 60000 < bytes.len() {')
+    if (cd "$tree" && rt ci model_list_limit) >"$scratch/limit.log" 2>&1; then
         echo "TRIAL lower_limit: no program noticed"
         failed=$((failed + 1))
+    elif ! grep -F 'is not what its file stdout has' "$scratch/limit.log"; then
+        echo "TRIAL lower_limit: $(tail -n 2 "$scratch/limit.log")"
+        failed=$((failed + 1))
     else
-        echo "trial lower_limit: refused: $(tail -n 1 "$scratch/limit.log")"
+        echo "trial lower_limit: refused"
         passed=$((passed + 1))
     fi
 }
