@@ -1,7 +1,7 @@
 -- Each answer of the calls on a recorder in numbers. Assumes nothing.
 use Prim.Native.Nat.{min}
-use Rattle.rules.proofs.Common.{ℕ, ◌+◌, ◌-◌, ◌*◌, ◌/◌, ◌%◌, ◌≤◌, ◌<◌, Bool, true, false, cond, not, ◌&&◌, ◌||◌, List}
-use Rattle.rules.proofs.Common.{[], ◌∷◌, ◌++◌, ◌≡◌, refl, sym, ap, ◌∙◌, eqb, ltb}
+use Rattle.rules.proofs.Common.{ℕ, ◌+◌, ◌-◌, ◌*◌, ◌/◌, ◌%◌, ◌≤◌, ◌<◌, Bool, true, false, cond, not, ◌||◌, List}
+use Rattle.rules.proofs.Common.{[], ◌∷◌, ◌≡◌, refl, sym, ap, ◌∙◌, eqb, ltb}
 use Rattle.rules.proofs.Common.{length, take, drop, length-take, length-drop}
 use mathlib.Core.List.{append-nil}
 use native.Mathlib.Omega.{arith}
@@ -10,7 +10,7 @@ use lib.ListN.{drop_of_length-le}
 use lib.Seq.{take_all}
 use Rattle.rules.specs.Leaf.{◌leaving◌}
 use Rattle.rules.specs.Refusals.{Row, ◌when◌, refusing, wrong}
-use Rattle.rules.proofs.Refusals.{leaves, leave_both, Clear, clear, cleared, due, one_wrong, none_wrong}
+use Rattle.rules.proofs.Refusals.{leaves, leave_both, clear, cleared, due, one_wrong, none_wrong}
 use Rattle.rules.proofs.Tests.{both, neither}
 use Rattle.sides.specs.Sides.{number_of, of_number}
 use Rattle.sides.specs.declared.Side.{Side}
@@ -135,10 +135,10 @@ module _ (r : Recorder) (taken : ℕ) (cleaned records : List ℕ) where
 
     module _ (short : long ≡ false) {side : ℕ} (ss : side ≡ number_of r.front.side) {t : Bool} (ts : t ≡ are_records
         side (next_frame r) (length records / 8) records) where
-      pub tried_68 : not t ≡ true → 68 ≡ refusing (more_rows r taken cleaned records) (λ k. k) 0
+      pub tried_68 : t ≡ false → 68 ≡ refusing (more_rows r taken cleaned records) (λ k. k) 0
       tried_68 e = rw (none, sym ls ∙ short, ← ss, ← ts, e)
 
-      pub tried_0 : not t ≡ false → 0 ≡ refusing (more_rows r taken cleaned records) (λ k. k) 0
+      pub tried_0 : t ≡ true → 0 ≡ refusing (more_rows r taken cleaned records) (λ k. k) 0
       tried_0 e = rw (none, sym ls ∙ short, ← ss, ← ts, e)
 
 module _ (taken : ℕ) (cleaned records ns out : List ℕ) where

@@ -1,5 +1,5 @@
 -- A bench that goes on in a next recording: its audio goes on. Assumes nothing.
-use Rattle.rules.proofs.Common.{ℕ, ◌+◌, ◌-◌, ◌*◌, ◌/◌, ◌%◌, ◌≤◌, List, [], ◌∷◌, ◌++◌, ◌≡◌, refl, sym, ap, ap₂, ◌∙◌, eqb}
+use Rattle.rules.proofs.Common.{ℕ, ◌+◌, ◌-◌, ◌*◌, ◌%◌, ◌≤◌, List, [], ◌∷◌, ◌++◌, ◌≡◌, refl, sym, ap, ap₂, ◌∙◌}
 use Rattle.rules.proofs.Common.{length, length-take}
 use mathlib.Core.List.{append_assoc}
 use native.Mathlib.Omega.{arith}

@@ -1,11 +1,11 @@
 -- What is written by calls that are accepted is a good recording. Assumes nothing.
-use Rattle.rules.proofs.Common.{ℕ, zero, suc, ◌+◌, ◌-◌, ◌*◌, ◌/◌, ◌%◌, ◌^◌, ◌≤◌, ◌<◌, Bool, true, false, cond, not}
-use Rattle.rules.proofs.Common.{◌&&◌, List, [], ◌∷◌, ◌++◌, ◌≡◌, refl}
+use Rattle.rules.proofs.Common.{ℕ, zero, suc, ◌+◌, ◌*◌, ◌/◌, ◌%◌, ◌^◌, ◌≤◌, ◌<◌, Bool, true, false, cond, not}
+use Rattle.rules.proofs.Common.{List, [], ◌∷◌, ◌++◌, ◌≡◌, refl}
 use Rattle.rules.proofs.Common.{sym, ap, ap₂, subst, ◌∙◌, eqb, ltb, length, get_or, take, drop, length-append}
 use Rattle.rules.proofs.Common.{length-drop}
 use mathlib.Core.List.{append_assoc, append-nil}
 use native.Mathlib.Omega.{arith}
-use borrow.Author.Tests.{eq-eqb, ne_eqb, eqb-true, eqb-false, ltb-false, leb-true, not-true, not-false}
+use borrow.Author.Tests.{eqb-true, eqb-false, ltb-false, leb-true, not-true, not-false}
 use lib.ListN.{take-append-drop}
 use Rattle.rules.specs.Leaf.{◌leaving◌}
 use Rattle.rules.specs.Lists.{sum, Bytes}
@@ -19,7 +19,7 @@ use Rattle.sides.specs.Sides.{number_of, of_number}
 use Rattle.sides.specs.declared.Side.{Side}
 use Rattle.sides.specs.declared.Side.TheVariants.{Left, Right}
 use Rattle.sides.specs.declared.Meant.TheVariants.{Means, Nothing}
-use Rattle.sheet.specs.Sheet.{four, record_bytes, records_of, trailer_of}
+use Rattle.sheet.specs.Sheet.{record_bytes, records_of, trailer_of}
 use Rattle.sheet.specs.End.{from_four, good_record, entry_of}
 use Rattle.sheet.proofs.Digits.{four_mod}
 use Rattle.sheet.proofs.Runs.{sum_append}
@@ -34,10 +34,10 @@ use Rattle.recording.proofs.Cuts.{entries_append}
 use Rattle.recording.proofs.SaidBack.{length_entries, heard_in_lem}
 use Rattle.recording.proofs.Told.{take_bytes, told_all}
 use Rattle.recorder.specs.Recorder.{beginning, next_frame, skip_of, room_of, belonging, start_of, is_record}
-use Rattle.recorder.specs.Recorder.{are_records, with_feed, too_long, more_rows}
+use Rattle.recorder.specs.Recorder.{are_records, with_feed, more_rows}
 use Rattle.recorder.specs.Recorder.{LONGEST, FRAMES, close_rows}
 use Rattle.recorder.specs.Numbers.{recorder_in, recorder_numbers, begun_on, begun_laid, more_laid, finish_laid}
-use Rattle.recorder.specs.Laws.{Given, GivenBytes, Calls, none, more, WrittenWhole, IsGood, AlwaysGood, audio_of}
+use Rattle.recorder.specs.Laws.{Given, GivenBytes, Calls, none, more, IsGood, AlwaysGood, audio_of}
 use Rattle.recorder.specs.Laws.{given_records, Frames, AsDefined}
 use Rattle.recorder.specs.declared.Recorder.{Recorder}
 use Rattle.recorder.proofs.Answers.{part_is, part_size}

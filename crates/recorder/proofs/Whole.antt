@@ -1,14 +1,14 @@
 -- The audio of a recording does not depend on how the output is cut into calls. Assumes nothing.
 use mathlib.Core.Logic.{◌⊎◌, ⊎_elim}
-use Rattle.rules.proofs.Common.{ℕ, suc, ◌+◌, ◌-◌, ◌*◌, ◌/◌, ◌≤◌, ◌<◌, Bool, true, false, cond, List, [], ◌∷◌, ◌++◌, ◌≡◌}
+use Rattle.rules.proofs.Common.{ℕ, ◌+◌, ◌-◌, ◌*◌, ◌/◌, ◌≤◌, ◌<◌, Bool, true, false, cond, List, [], ◌∷◌, ◌++◌, ◌≡◌}
 use Rattle.rules.proofs.Common.{refl}
-use Rattle.rules.proofs.Common.{sym, ap, ap₂, ◌∙◌, eqb, ltb, length, take, drop, length-take, length-drop}
+use Rattle.rules.proofs.Common.{sym, ap, ◌∙◌, eqb, ltb, length, take, drop, length-take, length-drop}
 use native.Mathlib.Omega.{arith}
 use borrow.Author.Tests.{ne_eqb, ltb-true, ltb-false}
 use lib.Seq.{take_all, take-append-le, take-append-add, drop-append-le}
 use mathlib.Core.List.{append-nil}
 use Rattle.recorder.specs.Recorder.{next_frame, skip_of, room_of, belonging, with_feed}
-use Rattle.recorder.specs.Laws.{Given, audio_of, taken_in, cleaned_of, HoweverGiven}
+use Rattle.recorder.specs.Laws.{taken_in, cleaned_of, HoweverGiven}
 use Rattle.recorder.specs.declared.Recorder.{Recorder}
 use Rattle.recorder.proofs.GoesOn.{within_feed}
 

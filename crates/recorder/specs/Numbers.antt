@@ -1,5 +1,5 @@
 -- A recorder in numbers, as a host holds it: eight of them. What is returned, and what the buffers then hold.
-use Rattle.rules.specs.Common.{ℕ, ◌%◌, not, List, [], ◌∷◌, eqb, length, get_or}
+use Rattle.rules.specs.Common.{ℕ, not, List, [], ◌∷◌, eqb, length, get_or}
 use Rattle.rules.specs.Leaf.{◌leaving◌}
 use Rattle.rules.specs.Refusals.{◌when◌, refusing, wrong}
 use Rattle.sides.specs.Sides.{number_of, of_number}

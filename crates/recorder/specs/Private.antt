@@ -3,7 +3,7 @@ use Rattle.rules.specs.Common.{ℕ, ◌+◌, ◌-◌, ◌/◌, ◌%◌, ◌^◌,
 use Rattle.rules.specs.Lists.{sum}
 use Rattle.checksum.specs.Checksum.{crc32}
 use Rattle.recording.specs.Verdict.{is_size}
-use Rattle.recorder.specs.Recorder.{skip_of, room_of, start_of, LONGEST, FRAMES}
+use Rattle.recorder.specs.Recorder.{room_of, start_of, LONGEST, FRAMES}
 use Rattle.recorder.specs.declared.Recorder.{Recorder}
 use Rattle.recorder.specs.declared.Part.{Part}
 

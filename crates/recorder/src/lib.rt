@@ -2,6 +2,7 @@
 // recording, and it carries on what the head, the seal and the trailer say at the end. A host holds it as eight
 // numbers.
 #![tactic(auto)]
+
 mod records;
 
 ghost use Rattle.std.specs.Prelude.{◌≡◌, ◌%◌, min, length};
@@ -21,7 +22,7 @@ use recording::Front;
 use sides::{Meant, Side};
 
 // A recording while it is being made.
-#[derive(Drop)]
+#[derive(Clone, Copy)]
 pub struct Recorder {
     // What its front says: the side, when it began, and the number of its first frame.
     pub front: Front,
