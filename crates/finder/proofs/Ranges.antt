@@ -1,10 +1,10 @@
 -- How far the places reach: no index leaves its list, and the period is 60 to 767. Assumes nothing.
 use Rattle.rules.proofs.Common.{ℕ, zero, suc, ◌+◌, ◌-◌, ◌*◌, ◌/◌, ◌≤◌, ◌<◌, Bool, true, false, cond, ◌&&◌, List, ◌≡◌}
-use Rattle.rules.proofs.Common.{refl, eqb, leb, ltb, T, length}
+use Rattle.rules.proofs.Common.{refl, eqb, leb, ltb, length}
 use Rattle.rules.proofs.Common.{drop, Float, lt}
 use native.Mathlib.Nat.{div-lt_iff_lt-mul, mul-le-mul}
 use native.Mathlib.Omega.{arith}
-use borrow.Author.Tests.{ltb-true, ltb-false, eqb-true, eqb-false, ne_eqb}
+use borrow.Author.Tests.{ltb-true, ltb-false, eqb-false, ne_eqb}
 use lib.Dec.{leb→le}
 use Rattle.rules.specs.F32.{at, nat_at, ◌⊕◌, ◌⊖◌, ◌⊗◌, ◌⊘◌, f32}
 use Rattle.rules.specs.Loop.{walk, Flow, go, stop, value, and_then}

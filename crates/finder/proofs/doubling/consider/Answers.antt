@@ -1,7 +1,6 @@
 -- `finder::doubling::consider` meets its contract. Assumes nothing.
 use Prim.Native.Nat.{◌≤◌}
 use native.Mathlib.Omega.{arith}
-use borrow.Author.Rules.{rules}
 use Rattle.finder.proofs.Joined.{better}
 use Rattle.finder.proofs.Ranges.{second_small}
 use Rattle.finder.proofs.doubling.consider.Goals as goal

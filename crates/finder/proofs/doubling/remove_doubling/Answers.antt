@@ -1,5 +1,4 @@
 -- `finder::doubling::remove_doubling` meets its contract. Assumes nothing.
-use borrow.Author.Rules.{rules}
 use Rattle.finder.proofs.doubling.remove_doubling.Goals as goal
 
 pub returns : goal.returns

@@ -1,6 +1,5 @@
 -- `finder::doubling::remove_in` meets its contract. Assumes nothing.
 use native.Mathlib.Omega.{arith}
-use borrow.Author.Rules.{rules}
 use Rattle.finder.proofs.Joined.{doubling_of}
 use Rattle.finder.proofs.Ranges.{best_inner}
 use Rattle.finder.proofs.doubling.remove_in.Goals as goal

@@ -1,11 +1,7 @@
 -- `finder::doubling::try_shorter` meets its contract. Assumes nothing.
-use Rattle.rules.proofs.Common.{◌+◌, ◌-◌, ◌≤◌, ◌≡◌}
-use native.Mathlib.Omega.{arith}
-use borrow.Author.Tests.{lt-ltb, le-ltb}
-use Rattle.rules.specs.Loop.{walk, go, stop}
-use Rattle.rules.proofs.Loops.{turns, walk_more, walk_ended, walk_stop}
-use Rattle.finder.specs.Doubling.{shorter_step, shorter}
-use Rattle.finder.proofs.Ranges.{shortened_small}
+use Rattle.rules.proofs.Common.{◌-◌, ◌≤◌, ◌≡◌}
+use Rattle.rules.specs.Loop.{walk, go}
+use Rattle.finder.specs.Doubling.{shorter_step}
 use Rattle.finder.proofs.doubling.try_shorter.Given as goal
 
 abbrev pub invariant-loop-i : goal.invariant-loop-i
