@@ -15,11 +15,11 @@ back_e i j = record { re = var i; im = sub nil (var j) }
 abbrev minus_one_e : Complex Expr
 minus_one_e = record { re = sub nil unit; im = nil }
 
-abbrev minus_iE : Complex Expr
-minus_iE = record { re = nil; im = sub nil unit }
+abbrev minus_i_e : Complex Expr
+minus_i_e = record { re = nil; im = sub nil unit }
 
-abbrev plus_iE : Complex Expr
-plus_iE = record { re = nil; im = unit }
+abbrev plus_i_e : Complex Expr
+plus_i_e = record { re = nil; im = unit }
 
 module _ {A : Type 0} (o : Ops A) where
   abbrev pub dot2 : Complex A → Complex A → Complex A → Complex A → Complex A
@@ -29,7 +29,8 @@ module _ {A : Type 0} (o : Ops A) where
   dot2_same x0 x1 p0 p1 = rw (p0, p1)
 
   abbrev pub dot3 : Complex A → Complex A → Complex A → Complex A → Complex A → Complex A → Complex A
-  dot3 x0 x1 x2 w0 w1 w2 = plus_c o (plus_c o (plus_c o (zero_c o) (times_c o x0 w0)) (times_c o x1 w1)) (times_c o x2 w2)
+  dot3 x0 x1 x2 w0 w1 w2 = plus_c o (plus_c o (plus_c o (zero_c o) (times_c o x0 w0)) (times_c o x1 w1))
+      (times_c o x2 w2)
 
   dot3_same : (x0 x1 x2 : Complex A) {w0 w1 w2 v0 v1 v2 : Complex A} → w0 ≡ v0 → w1 ≡ v1 → w2 ≡ v2
       → dot3 x0 x1 x2 w0 w1 w2 ≡ dot3 x0 x1 x2 v0 v1 v2
@@ -48,7 +49,8 @@ module _ {A : Type 0} (o : Ops A) where
   abbrev pub dot5 : Complex A → Complex A → Complex A → Complex A → Complex A → Complex A → Complex A → Complex A
       → Complex A → Complex A → Complex A
   dot5 x0 x1 x2 x3 x4 w0 w1 w2 w3 w4 =
-      plus_c o (plus_c o (plus_c o (plus_c o (plus_c o (zero_c o) (times_c o x0 w0)) (times_c o x1 w1)) (times_c o x2 w2))
+      plus_c o (plus_c o (plus_c o (plus_c o (plus_c o (zero_c o) (times_c o x0 w0)) (times_c o x1 w1))
+      (times_c o x2 w2))
       (times_c o x3 w3)) (times_c o x4 w4)
 
   dot5_same : (x0 x1 x2 x3 x4 : Complex A) {w0 w1 w2 w3 w4 v0 v1 v2 v3 v4 : Complex A} → w0 ≡ v0 → w1 ≡ v1 → w2 ≡ v2
@@ -97,12 +99,14 @@ module _ {A : Type 0} (o : Ops A) (R : Ring o) (c : ℕ → A) (K : Cosines o R.
   unfolding sum_c
   two_right x zero h =
       solve_c o R (list2 x) (of_two exprs (pair_e 0 1) (pair_e 2 3) 0)
-      (plus_c exprs (plus_c exprs (zero_c exprs) (times_c exprs (pair_e 0 1) (one_e))) (times_c exprs (pair_e 2 3) (one_e))) refl
+      (plus_c exprs (plus_c exprs (zero_c exprs) (times_c exprs (pair_e 0 1) (one_e)))
+      (times_c exprs (pair_e 2 3) (one_e))) refl
       refl
       ∙ dot2_same o (x 0) (x 1) (sym (e_start o R c K)) (sym (e_start o R c K))
   two_right x (suc zero) h =
       solve_c o R (list2 x) (of_two exprs (pair_e 0 1) (pair_e 2 3) 1)
-      (plus_c exprs (plus_c exprs (zero_c exprs) (times_c exprs (pair_e 0 1) (one_e))) (times_c exprs (pair_e 2 3) (minus_one_e)))
+      (plus_c exprs (plus_c exprs (zero_c exprs) (times_c exprs (pair_e 0 1) (one_e)))
+      (times_c exprs (pair_e 2 3) (minus_one_e)))
       refl refl
       ∙ dot2_same o (x 0) (x 1) (sym (e_start o R c K)) (sym (start_back))
   two_right x (suc (suc q)) h = absurd (omega arith)
@@ -143,28 +147,32 @@ module _ {A : Type 0} (o : Ops A) (R : Ring o) (c : ℕ → A) (K : Cosines o R.
   four_right x zero h =
       solve_c o R (list4 x) (of_four exprs (pair_e 0 1) (pair_e 2 3) (pair_e 4 5) (pair_e 6 7) 0)
       (plus_c exprs (plus_c exprs
-      (plus_c exprs (plus_c exprs (zero_c exprs) (times_c exprs (pair_e 0 1) (one_e))) (times_c exprs (pair_e 2 3) (one_e)))
+      (plus_c exprs (plus_c exprs (zero_c exprs) (times_c exprs (pair_e 0 1) (one_e)))
+      (times_c exprs (pair_e 2 3) (one_e)))
       (times_c exprs (pair_e 4 5) (one_e))) (times_c exprs (pair_e 6 7) (one_e))) refl refl
       ∙ dot4_same o (x 0) (x 1) (x 2) (x 3) (sym (e_start o R c K)) (sym (e_start o R c K)) (sym (e_start o R c K))
       (sym (e_start o R c K))
   four_right x (suc zero) h =
       solve_c o R (list4 x) (of_four exprs (pair_e 0 1) (pair_e 2 3) (pair_e 4 5) (pair_e 6 7) 1)
       (plus_c exprs (plus_c exprs
-      (plus_c exprs (plus_c exprs (zero_c exprs) (times_c exprs (pair_e 0 1) (one_e))) (times_c exprs (pair_e 2 3) (minus_iE)))
-      (times_c exprs (pair_e 4 5) (minus_one_e))) (times_c exprs (pair_e 6 7) (plus_iE))) refl refl
+      (plus_c exprs (plus_c exprs (zero_c exprs) (times_c exprs (pair_e 0 1) (one_e)))
+      (times_c exprs (pair_e 2 3) (minus_i_e)))
+      (times_c exprs (pair_e 4 5) (minus_one_e))) (times_c exprs (pair_e 6 7) (plus_i_e))) refl refl
       ∙ dot4_same o (x 0) (x 1) (x 2) (x 3) (sym (e_start o R c K)) (sym (e_240)) (sym (start_back)) (sym (e_720))
   four_right x (suc (suc zero)) h =
       solve_c o R (list4 x) (of_four exprs (pair_e 0 1) (pair_e 2 3) (pair_e 4 5) (pair_e 6 7) 2)
       (plus_c exprs (plus_c exprs
-      (plus_c exprs (plus_c exprs (zero_c exprs) (times_c exprs (pair_e 0 1) (one_e))) (times_c exprs (pair_e 2 3) (minus_one_e)))
+      (plus_c exprs (plus_c exprs (zero_c exprs) (times_c exprs (pair_e 0 1) (one_e)))
+      (times_c exprs (pair_e 2 3) (minus_one_e)))
       (times_c exprs (pair_e 4 5) (one_e))) (times_c exprs (pair_e 6 7) (minus_one_e))) refl refl
       ∙ dot4_same o (x 0) (x 1) (x 2) (x 3) (sym (e_start o R c K)) (sym (start_back))
       (sym (e_turns o R c K 0 1 ∙ e_start o R c K)) (sym (e_turns o R c K 480 1 ∙ start_back))
   four_right x (suc (suc (suc zero))) h =
       solve_c o R (list4 x) (of_four exprs (pair_e 0 1) (pair_e 2 3) (pair_e 4 5) (pair_e 6 7) 3)
       (plus_c exprs (plus_c exprs
-      (plus_c exprs (plus_c exprs (zero_c exprs) (times_c exprs (pair_e 0 1) (one_e))) (times_c exprs (pair_e 2 3) (plus_iE)))
-      (times_c exprs (pair_e 4 5) (minus_one_e))) (times_c exprs (pair_e 6 7) (minus_iE))) refl refl
+      (plus_c exprs (plus_c exprs (zero_c exprs) (times_c exprs (pair_e 0 1) (one_e)))
+      (times_c exprs (pair_e 2 3) (plus_i_e)))
+      (times_c exprs (pair_e 4 5) (minus_one_e))) (times_c exprs (pair_e 6 7) (minus_i_e))) refl refl
       ∙ dot4_same o (x 0) (x 1) (x 2) (x 3) (sym (e_start o R c K)) (sym (e_720))
       (sym (e_turns o R c K 480 1 ∙ start_back)) (sym (e_turns o R c K 240 2 ∙ e_240))
   four_right x (suc (suc (suc (suc q)))) h = absurd (omega arith)
@@ -176,8 +184,8 @@ module _ {A : Type 0} (o : Ops A) (R : Ring o) (c : ℕ → A) (K : Cosines o R.
 
   abbrev list5 : (ℕ → Complex A) → List A
   list5 x =
-      (x 0).re ∷ (x 0).im ∷ (x 1).re ∷ (x 1).im ∷ (x 2).re ∷ (x 2).im ∷ (x 3).re ∷ (x 3).im ∷ (x 4).re ∷ (x 4).im ∷ c 192 ∷ c 384
-      ∷ c 432 ∷ c 624 ∷ []
+      (x 0).re ∷ (x 0).im ∷ (x 1).re ∷ (x 1).im ∷ (x 2).re ∷ (x 2).im ∷ (x 3).re ∷ (x 3).im ∷ (x 4).re ∷ (x 4).im
+      ∷ c 192 ∷ c 384 ∷ c 432 ∷ c 624 ∷ []
 
   pub five_right : (x : ℕ → Complex A) (q : ℕ) → q < 5
       → of_five o c (x 0) (x 1) (x 2) (x 3) (x 4) q ≡ sum_c o R 5 (λ j. times_c o (x j) (E (192 * (j * q))))

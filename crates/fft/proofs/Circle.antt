@@ -66,7 +66,8 @@ module _ {A : Type 0} (o : Ops A) (R : Ring o) where
         solve_c six (times_c exprs (plus_c exprs (pair_e 0 1) (pair_e 2 3)) (pair_e 4 5))
         (plus_c exprs (times_c exprs (pair_e 0 1) (pair_e 4 5)) (times_c exprs (pair_e 2 3) (pair_e 4 5))) refl refl
 
-  pub plus_swap_c : (x y z w : Complex A) → plus_c o (plus_c o x y) (plus_c o z w) ≡ plus_c o (plus_c o x z) (plus_c o y w)
+  pub plus_swap_c : (x y z w : Complex A) → plus_c o (plus_c o x y) (plus_c o z w)
+      ≡ plus_c o (plus_c o x z) (plus_c o y w)
   plus_swap_c x y z w = solve_c (x.re ∷ x.im ∷ y.re ∷ y.im ∷ z.re ∷ z.im ∷ w.re ∷ w.im ∷ [])
       (plus_c exprs (plus_c exprs (pair_e 0 1) (pair_e 2 3)) (plus_c exprs (pair_e 4 5) (pair_e 6 7)))
       (plus_c exprs (plus_c exprs (pair_e 0 1) (pair_e 4 5)) (plus_c exprs (pair_e 2 3) (pair_e 6 7))) refl refl
@@ -102,7 +103,8 @@ module _ {A : Type 0} (o : Ops A) (R : Ring o) where
       ap (λ (s : Complex A). plus_c o s (plus_c o (f n) (g n))) (sum_plus n f g)
       ∙ plus_swap_c (sum_c n f) (sum_c n g) (f n) (g n)
 
-  pub sum_times : (n : ℕ) (f : ℕ → Complex A) (w : Complex A) → times_c o (sum_c n f) w ≡ sum_c n (λ i. times_c o (f i) w)
+  pub sum_times : (n : ℕ) (f : ℕ → Complex A) (w : Complex A)
+      → times_c o (sum_c n f) w ≡ sum_c n (λ i. times_c o (f i) w)
   unfolding sum_c
   sum_times zero f w = zero_times_c w
   sum_times (suc n) f w =

@@ -51,7 +51,8 @@ module _ {A : Type 0} (o : Ops A) (R : Ring o) (c : ℕ → A) (K : Cosines o R.
 
     split_zero : split o c k (zero_c o) (zero_c o) ≡ zero_c o
     split_zero =
-        solve_c o R (c 160 ∷ c k ∷ c (k + 240) ∷ []) (split_e 0 1 2 (zero_c exprs) (zero_c exprs)) (zero_c exprs) refl refl
+        solve_c o R (c 160 ∷ c k ∷ c (k + 240) ∷ []) (split_e 0 1 2 (zero_c exprs) (zero_c exprs)) (zero_c exprs) refl
+        refl
 
     split_sum : (n : ℕ) (f g : ℕ → Complex A)
         → split o c k (sum_c o R n f) (sum_c o R n g) ≡ sum_c o R n (λ t. split o c k (f t) (g t))

@@ -153,7 +153,8 @@ module _ {A : Type 0} (o : Ops A) (R : Ring o) (c : ℕ → A) (K : Cosines o R.
     apart : (k : ℕ) → merged_at o c x k ×ᶜ E (2 * (k * n)) ≡ plus_c o (mine k) (other k)
     apart k =
         ap (λ (v : Complex A). v ×ᶜ E (2 * (k * n))) (merged_apart o R (c k) (c (k + 240)) (X k) (X (480 - k)))
-        ∙ plus_times_c o R (by o (c k) (c (k + 240)) (X k) (zero_c o)) (by o (c k) (c (k + 240)) (zero_c o) (X (480 - k)))
+        ∙ plus_times_c o R (by o (c k) (c (k + 240)) (X k) (zero_c o))
+        (by o (c k) (c (k + 240)) (zero_c o) (X (480 - k)))
         (E (2 * (k * n)))
 
     -- bin k as the other of bin i

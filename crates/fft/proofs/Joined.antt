@@ -19,7 +19,8 @@ module _ (t : List Float) where
   two_of h pa pb = rw (pa, pb) at h
 
   pub three_of : {r : Threes} {a b d : Cx} {ea eb ed : Complex Float}
-      → r ≡ threes (of_three single (of t) (complex_of a) (complex_of b) (complex_of d)) → a ≡ cx ea → b ≡ cx eb → d ≡ cx ed
+      → r ≡ threes (of_three single (of t) (complex_of a) (complex_of b) (complex_of d)) → a ≡ cx ea → b ≡ cx eb
+      → d ≡ cx ed
       → r ≡ threes (of_three single (of t) ea eb ed)
   three_of h pa pb pd = rw (pa, pb, pd) at h
 

@@ -252,7 +252,8 @@ then_put i w x y v e d = e ∙ ap (λ (l : List Float). put_complex l i w x y v)
 -- ---- the bins of four lanes
 pub laid_twos : (g : ℕ → ℕ → Complex Float) (i : ℕ) {held now : List Float} {w x y v : Twos} → i + 4 ≤ 240
     → Laid 2 240 g i held
-    → w ≡ twos (g i) → x ≡ twos (g (i + 1)) → y ≡ twos (g (i + 2)) → v ≡ twos (g (i + 3)) → now ≡ put_twos held i w x y v
+    → w ≡ twos (g i) → x ≡ twos (g (i + 1)) → y ≡ twos (g (i + 2)) → v ≡ twos (g (i + 3))
+    → now ≡ put_twos held i w x y v
     → Laid 2 240 g (i + 4) now
 unfolding put_twos
 laid_twos g i room h p q u t e =

@@ -163,7 +163,8 @@ module _ {A : Type 0} (o : Ops A) (R : Ring o) (c : ℕ → A) (K : Cosines o R.
 
       -- number j of a lane, from the sums that the list holds
       number : Done s (r * m) xs → (B p j : ℕ) → B < r * s → p < m → j < r
-          → complex_at o xs (r * m * (B % s) + p + m * j) ×ᶜ E (2 * m * (j * (B % s))) ×ᶜ E (2 * (m * s) * (j * (B / s)))
+          → complex_at o xs (r * m * (B % s) + p + m * j) ×ᶜ E (2 * m * (j * (B % s)))
+          ×ᶜ E (2 * (m * s) * (j * (B / s)))
           ≡ sum_c o R s (λ t. z (p + m * (r * t + j)) ×ᶜ E (2 * m * ((r * t + j) * B)))
       number done B p j hB hp hj =
           let here : complex_at o xs (r * m * (B % s) + p + m * j)
@@ -192,8 +193,8 @@ module _ {A : Type 0} (o : Ops A) (R : Ring o) (c : ℕ → A) (K : Cosines o R.
           (λ j. complex_at o xs (r * m * k + (m * (B % s) + p) % m + m * j) ×ᶜ E (2 * m * (j * k)) ×ᶜ E
           (2 * (m * s) * (j * (B / s))))) (plan.block (B % s) p small hp)
           ∙ ap (λ (w : ℕ). sum_c o R r
-          (λ j. complex_at o xs (r * m * (B % s) + w + m * j) ×ᶜ E (2 * m * (j * (B % s))) ×ᶜ E
-          (2 * (m * s) * (j * (B / s))))) (plan.offset (B % s) p small hp)
+          (λ j. complex_at o xs (r * m * (B % s) + w + m * j) ×ᶜ E (2 * m * (j * (B % s)))
+          ×ᶜ E (2 * (m * s) * (j * (B / s))))) (plan.offset (B % s) p small hp)
           ∙ sum_same o R r _ _ (λ j hj. number done B p j hB hp hj)
           ∙ sym (sum_dealt o R r s (λ t. z (p + m * t) ×ᶜ E (2 * m * (t * B))))
 

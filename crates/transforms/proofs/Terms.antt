@@ -124,7 +124,8 @@ stepped : (lane : ℕ → Lane) (part : ℕ → ℕ) → ((t : ℕ) → t < 8 �
     → k < 124 → n % 4 ≡ j
     → (f g : ℕ → ℕ → Float) → ((t i : ℕ) → T (plain (f t i)))
     → ((t i : ℕ) → f t i ⊕ v ⊗ wave (index (lane t) i) n (240 * part t) ≡ g t i)
-    → {s r : Sums} {c d p q : Four} → s ≡ sums_of f k → c ≡ four_of (λ i. wave i n 0) k → d ≡ four_of (λ i. wave i n 240) k
+    → {s r : Sums} {c d p q : Four} → s ≡ sums_of f k → c ≡ four_of (λ i. wave i n 0) k
+    → d ≡ four_of (λ i. wave i n 240) k
     → p ≡ both ◌⊗◌ (four_of (λ i. v) 0) c → q ≡ both ◌⊗◌ (four_of (λ i. v) 0) d → r ≡ plus_terms lane part j s p q
     → r ≡ sums_of g k
 unfolding plus_terms sums_of
@@ -179,7 +180,8 @@ module _ (x : List Float) (held : T (fits binary32 (at x 0))) (n : ℕ) (small :
       (λ l i. range_more (inverse_step x (index (sample_lane l) i)) (f32 0 ⊕ at x 0) 1 k o refl refl) half read-c read-d
       more-c more-d second
 
-  pub last_stepped : {s r : Sums} {c d p q : Four} → s ≡ sums_of (sample_part x 480) n → c ≡ four_of (λ i. wave i 480 0) n
+  pub last_stepped : {s r : Sums} {c d p q : Four} → s ≡ sums_of (sample_part x 480) n
+      → c ≡ four_of (λ i. wave i 480 0) n
       → d ≡ four_of (λ i. wave i 480 240) n
       → p ≡ both ◌⊗◌ (four_of (λ i. at x 959) 0) c → q ≡ both ◌⊗◌ (four_of (λ i. at x 959) 0) d
       → r ≡ plus_terms sample_lane (λ i. 0) 0 s p q → r ≡ sums_of (whole_part x) n

@@ -9,7 +9,8 @@ use Rattle.transforms.proofs.bins.spread.Given as goal
 
 abbrev pub invariant-loop-j : goal.invariant-loop-j
 invariant-loop-j l = (l.j ≤ 961) × (length l.initial.out ≡ 961) × (length l.out ≡ 961)
-    × ((x : List Float) → Keeps (bin_part x 960) 992 l.parts → Filling (λ i. bin x (bin_of i) (part_of i)) l.initial.out l.j l.out)
+    × ((x : List Float) → Keeps (bin_part x 960) 992 l.parts
+    → Filling (λ i. bin x (bin_of i) (part_of i)) l.initial.out l.j l.out)
 
 abbrev pub decreases-loop-j : goal.decreases-loop-j
 decreases-loop-j l = 961 - l.j

@@ -5,8 +5,10 @@ use Rattle.transforms.proofs.samples.four_steps.Goals as goal
 
 pub step-sa-requires : goal.step-sa-requires
 step-sa-requires c =
-    let pre = c.requires in
-    record { x_len = (pre.x_len.0, omega (arith, pre.x_len), omega (arith, pre.x_len), omega (arith, pre.x_len)); reached = pre.reached }
+    let pre = c.requires in record {
+      x_len = (pre.x_len.0, omega (arith, pre.x_len), omega (arith, pre.x_len), omega (arith, pre.x_len));
+      reached = pre.reached;
+    }
 
 pub next-ma-requires : goal.next-ma-requires
 next-ma-requires c = (c.requires.reached.here, c.requires.reached.small)
