@@ -55,9 +55,9 @@ fn compute_features(
     ep: &[f32],
     logs: &[f32],
 )
-    requires share_len { (length share.old ≡ 3778) × (length features.old ≡ 42) × (length exp.old ≡ 22) × (index ≤ 7) }
-    requires p_len { (length p.now ≡ 961) × (length ep.now ≡ 22) × (length logs.now ≡ 22) }
-    requires x_value { (x.now ≡ get kept_x share.old) × (ex.now ≡ get kept_ex share.old) }
+    requires sizes { (length share.old ≡ 3778) × (length features.old ≡ 42) × (length exp.old ≡ 22) × (index ≤ 7) }
+    requires lent_sizes { (length p.now ≡ 961) × (length ep.now ≡ 22) × (length logs.now ≡ 22) }
+    requires as_kept { (x.now ≡ get kept_x share.old) × (ex.now ≡ get kept_ex share.old) }
     ensures { featured_as share.new features.new exp.new
         ≡ featured share.old index p.now ep.now logs.now }
 {
@@ -126,8 +126,8 @@ fn filter_and_apply_gain(
     ex: &[f32],
     ep: &[f32],
 )
-    requires share_len { (length share.old ≡ 3778) × (length out.old ≡ 961) × (length gains.old ≡ 22) }
-    requires p_len { (length p.now ≡ 961) × (length exp.now ≡ 22) × (length ex.now ≡ 22) × (length ep.now ≡ 22) }
+    requires sizes { (length share.old ≡ 3778) × (length out.old ≡ 961) × (length gains.old ≡ 22) }
+    requires lent_sizes { (length p.now ≡ 961) × (length exp.now ≡ 22) × (length ex.now ≡ 22) × (length ep.now ≡ 22) }
     ensures share_after { share.new
         ≡ put lastg share.old (held_gains share.old gains.old) }
     ensures out_after { out.new
@@ -153,10 +153,10 @@ fn process_heard_in(
     logs: &[f32],
     model: &[u8],
 ) -> f32
-    requires share_len { (length share.old ≡ 3778) × (length features.old ≡ 42) × (length exp.old ≡ 22)
+    requires sizes { (length share.old ≡ 3778) × (length features.old ≡ 42) × (length exp.old ≡ 22)
         × (length gains.old ≡ 22) × (index ≤ 7) }
-    requires p_len { (length p.now ≡ 961) × (length ep.now ≡ 22) × (length logs.now ≡ 22) }
-    requires out_value { (out.old ≡ get kept_x share.old) × (ex.now ≡ get kept_ex share.old) }
+    requires lent_sizes { (length p.now ≡ 961) × (length ep.now ≡ 22) × (length logs.now ≡ 22) }
+    requires as_kept { (out.old ≡ get kept_x share.old) × (ex.now ≡ get kept_ex share.old) }
     ensures { Reads model.now (λ m. spoken_as share.new result out.new
         ≡ spoken_from share.old index p.now ep.now logs.now
         model.now m) }
@@ -179,9 +179,9 @@ fn process_heard(
     logs: &[f32],
     model: &[u8],
 ) -> f32
-    requires share_len { (length share.old ≡ 3778) × (index ≤ 7) × (length p.now ≡ 961) × (length ep.now ≡ 22)
+    requires sizes { (length share.old ≡ 3778) × (index ≤ 7) × (length p.now ≡ 961) × (length ep.now ≡ 22)
         × (length logs.now ≡ 22) }
-    requires out_value { (out.old ≡ get kept_x share.old) × (ex.now ≡ get kept_ex share.old) }
+    requires as_kept { (out.old ≡ get kept_x share.old) × (ex.now ≡ get kept_ex share.old) }
     ensures { Reads model.now (λ m. spoken_as share.new result out.new
         ≡ spoken_from share.old index p.now ep.now logs.now
         model.now m) }
@@ -215,9 +215,9 @@ fn hear_in(
     logs: &[f32],
     model: &[u8],
 ) -> f32
-    requires share_len { (length share.old ≡ 3778) × (out.old ≡ get kept_x share.old) × (index ≤ 7)
+    requires sizes { (length share.old ≡ 3778) × (out.old ≡ get kept_x share.old) × (index ≤ 7)
         × (length spectrum.now ≡ 961) × (length logs.now ≡ 22) }
-    requires p_len { (length p.old ≡ 961) × (length ex.old ≡ 22) × (length ep.old ≡ 22) }
+    requires lent_sizes { (length p.old ≡ 961) × (length ex.old ≡ 22) × (length ep.old ≡ 22) }
     ensures { Reads model.now (λ m. spoken_as share.new result out.new
         ≡ spoken share.old index spectrum.now logs.now model.now m) }
 {

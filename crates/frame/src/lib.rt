@@ -16,7 +16,7 @@ use numbers::Memory;
 
 // What a call is told: done, for call 3 silent or heard with voice and energy, for a desk's call 4 the frames and the
 // heard frames so far; refused with a number, or with 7 and the model's number and layer.
-#[derive(Drop)]
+#[derive(Clone, Copy)]
 pub enum Reply {
     Done,
     Silent,
@@ -41,19 +41,19 @@ pub fn passed(reply: Reply) -> bool
 }
 
 // How long ago the pitch was, in samples.
-#[derive(Drop)]
+#[derive(Clone, Copy)]
 pub struct Lag(pub usize);
 
 // A bench's way, settled by its opening: what requests 04 and 08 ask, our own lag and the plain sums; or the crate's
 // own, its finder and the fast transforms.
-#[derive(Drop)]
+#[derive(Clone, Copy)]
 pub enum Way {
     Own,
     Nnnoiseless,
 }
 
 // What a bench needs to hear a frame: where its cepstra go on, the GRU counts that its opening noted, and its way.
-#[derive(Drop)]
+#[derive(Clone, Copy)]
 pub struct Hearing {
     pub index: usize,
     pub vad: usize,

@@ -10,8 +10,7 @@ use Rattle.frame.specs.Share.{kept_x, kept_ex, kept_lag, cepstral_mem}
 use Rattle.frame.specs.Heard.{featured}
 use Rattle.frame.specs.Private.{featured_as}
 use Rattle.frame.proofs.Sizes.{x_size, ex_size, cepstra_size, lag_at}
-use Rattle.frame.proofs.heard.compute_features.Statement.{statement}
-use Rattle.frame.proofs.heard.compute_features.Tie as tie
+use Rattle.frame.proofs.heard.compute_features.Goals as goal
 
 -- what `compute_features` leaves, from x, ex and the lag as the share keeps them
 sensed : (share : List Float) (index : ℕ) (p ep logs : List Float) {x ex : List Float} {lag : Float}
@@ -33,41 +32,24 @@ sensed share index p ep logs hx hex hlag h =
       ap (λ (b : List Float × (List Float × List Float)). b.1.1) h,
     )
 
-returns : tie.Need-returns
+pub returns : goal.returns
 unfolding get put
 returns c =
-    let f = c.before.before.before.before.before.before in
-    let start =
-    f.before.before.before.before.before.before.before.before.before.before.before.before.before in
-    let a = start.args in
+    let a = c.args in
     let share = a.share.now in
-    let pre = start.pre in
-    let x = pre.1.1.0 in
-    let ex = pre.1.1.1 in
+    let pre = c.requires in
+    let x = pre.as_kept.0 in
+    let ex = pre.as_kept.1 in
     sensed share a.index a.p.now a.ep.now a.logs.now x ex (lag_at share)
-    (fitted f.compute-features.ensures
+    (fitted c.compute_features.ensures
     (record {
-      all = pre.0.1;
-      correlations = pre.0.2;
-      rows = cepstra_size share pre.0.0;
-      inside = pre.0.3;
-      spectrum = ap length x ∙ x_size share pre.0.0;
-      lagged = pre.1.0.0;
-      energies = ap length ex ∙ ex_size share pre.0.0;
-      lagged_energies = pre.1.0.1;
-      logarithms = pre.1.0.2;
+      all = pre.sizes.1;
+      correlations = pre.sizes.2;
+      rows = cepstra_size share pre.sizes.0;
+      inside = pre.sizes.3;
+      spectrum = ap length x ∙ x_size share pre.sizes.0;
+      lagged = pre.lent_sizes.0;
+      energies = ap length ex ∙ ex_size share pre.sizes.0;
+      lagged_energies = pre.lent_sizes.1;
+      logarithms = pre.lent_sizes.2;
     }))
-
-pub compute_features_spec : {M : Type 1} → statement M
-compute_features_spec =
-    tie.close
-    (tie.spec
-    (λ c. search rules)  -- slice-read-lag
-    (λ c. search rules)  -- sub-compute-features
-    (λ c. search rules)  -- part-compute-features-start
-    (λ c. search rules)  -- part-compute-features-end
-    (λ c κs. search rules)  -- compute-features-requires
-    (λ c. search rules)  -- same-length
-    (λ c. search rules)  -- same-length-2
-    (λ c. search rules)  -- same-length-3
-    returns)

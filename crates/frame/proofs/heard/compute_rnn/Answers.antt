@@ -1,0 +1,23 @@
+-- `frame::heard::compute_rnn` meets its contract: the states come back as the network leaves them. Assumes nothing.
+use mathlib.Core.Path.{refl, ap, sym, ◌∙◌}
+use native.Mathlib.Omega.{arith}
+use Rattle.rules.specs.Place.{get, put}
+use Rattle.rules.proofs.Places.{length_get}
+use Rattle.network.specs.Compute.{Outcome}
+use Rattle.network.proofs.Callers.{computed_done}
+use Rattle.network.proofs.States.{fit_on}
+use Rattle.frame.proofs.Spoken.{states, thought}
+use Rattle.frame.proofs.heard.compute_rnn.Goals as goal
+
+pub returns : goal.returns
+unfolding get put
+returns c = λ m good.
+    let n = c.compute_on in
+    let a = c.args in
+    let share = a.share.now in
+    let pre = c.requires in
+    let lent = length_get states share (omega (arith, pre.0)) in
+    let done = n.ensures
+    ∙ sym (computed_done _ _ _ _ _ _ _ (fit_on (get states share) pre.1 refl lent pre.2) good refl) in
+    thought share a.model.now m a.features.now n.new.states pre.0 (n.auto.states ∙ lent)
+    (ap (λ (o : Outcome). o.layers) done)

@@ -1,0 +1,18 @@
+-- `frame::output::overlap` meets its contract. The loop's invariant: of both slices the first i places are written, and
+-- the others are as they were.
+-- Assumes nothing.
+use Rattle.rules.proofs.Common.{ℕ, ◌+◌, ◌-◌, ◌≤◌, ◌<◌, List, ◌≡◌, sym, ap, ◌∙◌, Float, nan}
+use native.Mathlib.Omega.{arith}
+use Rattle.rules.specs.F32.{◌⊕◌, ◌⊗◌, ◌⊘◌, at, f32}
+use Rattle.rules.proofs.Lists.{Filling, filling_more, filling_ahead, fills, get_d_tab}
+use Rattle.bands.specs.Window.{window}
+use Rattle.bands.specs.Windowed.{windowed_by}
+use Rattle.frame.specs.Frame.{window_buf, overlapped, later_half}
+use Rattle.frame.proofs.output.overlap.Given as goal
+
+abbrev pub invariant-loop-i : goal.invariant-loop-i
+invariant-loop-i l = (l.i ≤ 480) × Filling (λ k. at (window_buf l.inverse) (480 + k)) l.initial.kept l.i l.kept
+    × Filling (λ k. at (window_buf l.inverse) k ⊕ at l.initial.kept k) l.initial.out l.i l.out
+
+abbrev pub decreases-loop-i : goal.decreases-loop-i
+decreases-loop-i l = 480 - l.i
