@@ -14,7 +14,7 @@ mod heard;
 mod pitch;
 
 // The answer of `listen`.
-#[derive(Drop)]
+#[derive(Clone, Copy)]
 pub enum Sound {
     // The sum of the band energies is below 0.04.
     Silent,

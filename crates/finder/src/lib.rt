@@ -14,14 +14,14 @@ pub mod kept;
 mod search;
 
 // A period in samples and its gain.
-#[derive(Drop)]
+#[derive(Clone, Copy)]
 pub struct Pitch {
     pub period: usize,
     pub gain: f32,
 }
 
 // What was found, or the number of a refusal.
-#[derive(Drop)]
+#[derive(Clone, Copy)]
 pub enum Found {
     At(Pitch),
     Refused(u32),
