@@ -1,8 +1,8 @@
 -- `logs::table::row_at` meets its contract: each arm by its key. Assumes nothing.
-use native.Mathlib.Nat.{le_antisymm}
+use Rattle.std.proofs.Common.{arith}
 use lib.Ieee.{neg}
 use Rattle.logs.specs.Tables.{row_bits, rows, row_at}
-use Rattle.rules.proofs.Tests.{keyed, past}
+use Rattle.rules.proofs.Tests.{keyed}
 use Rattle.logs.proofs.table.row_at.Goals as goal
 
 pub returns-in-0 : goal.returns-in-0
@@ -135,4 +135,4 @@ returns-in-31 c = keyed row_at c.in-31.is
 
 pub returns-in_default : goal.returns-in_default
 unfolding rows row_bits neg
-returns-in_default c = keyed row_at (le_antisymm c.requires (past 32 c.args.i c.in_default.in_default-own.rest))
+returns-in_default c = keyed row_at {k = 32} {i = c.args.i} (omega arith)

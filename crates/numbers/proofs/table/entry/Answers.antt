@@ -1,7 +1,7 @@
 -- `numbers::table::entry` meets its contract: each arm by its key. Assumes nothing.
-use Rattle.std.proofs.Common.{le_antisymm}
+use Rattle.std.proofs.Common.{arith}
 use Rattle.rules.specs.F32.{at}
-use Rattle.rules.proofs.Tests.{keyed, past}
+use Rattle.rules.proofs.Tests.{keyed}
 use Rattle.numbers.specs.Tansig.{tansig, tansig_bits}
 use Rattle.numbers.proofs.table.entry.Goals as goal
 
@@ -807,4 +807,4 @@ returns-in-199 c = keyed (at tansig) c.in-199.is
 
 pub returns-in_default : goal.returns-in_default
 unfolding tansig tansig_bits
-returns-in_default c = keyed (at tansig) (le_antisymm c.requires (past 200 c.args.i c.in_default.in_default-own.rest))
+returns-in_default c = keyed (at tansig) {k = 200} {i = c.args.i} (omega arith)
