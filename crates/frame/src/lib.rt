@@ -1,6 +1,7 @@
 // The four calls of a frame over its part of one share of the store: 3,778 numbers, that know of no side. What is
 // refused changes nothing.
 #![tactic(auto)]
+
 ghost use Rattle.std.specs.Prelude.{◌≡◌, [], ◌∷◌, length};
 ghost use Rattle.frame.specs.Effect.{Worked};
 ghost use Rattle.frame.specs.Frame.{call1, call2, call3, call4};

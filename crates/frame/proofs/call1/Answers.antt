@@ -2,7 +2,6 @@
 use Rattle.rules.proofs.Common.{List, [], ◌∷◌, refl, sym, ap, ap₂, ◌∙◌, length, length-set, length-drop, length-append}
 use Rattle.rules.proofs.Common.{Float}
 use native.Mathlib.Omega.{arith}
-use borrow.Author.Rules.{rules}
 use Rattle.rules.specs.Place.{get, put}
 use Rattle.rules.proofs.Places.{put_sets}
 use Rattle.rules.proofs.Tests.{tests}

@@ -1,7 +1,6 @@
 -- `frame::call3` meets its contract. Assumes nothing.
 use Rattle.rules.proofs.Common.{[], ◌∷◌, sym, ◌∙◌, length}
 use native.Mathlib.Omega.{arith}
-use borrow.Author.Rules.{rules}
 use Rattle.model.specs.Model.{read_of}
 use Rattle.rules.proofs.Tests.{tests}
 use Rattle.frame.specs.Frame.{counted, done3, call3}

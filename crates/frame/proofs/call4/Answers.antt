@@ -1,7 +1,6 @@
 -- `frame::call4` meets its contract. Assumes nothing.
 use Rattle.rules.proofs.Common.{List, [], ◌∷◌, refl, ap, length, Float}
 use native.Mathlib.Omega.{arith}
-use borrow.Author.Rules.{rules}
 use Rattle.rules.specs.Place.{get, put}
 use Rattle.rules.proofs.Tests.{tests}
 use Rattle.frame.specs.Share.{synthesis_mem}

@@ -1,5 +1,4 @@
 -- `frame::one_more` meets its contract: each answer by the tests that lead to it. Assumes nothing.
-use borrow.Author.Rules.{rules}
 use Rattle.rules.proofs.Tests.{tests}
 use Rattle.frame.proofs.one_more.Goals as goal
 

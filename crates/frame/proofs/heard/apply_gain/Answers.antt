@@ -1,7 +1,6 @@
 -- `frame::heard::apply_gain` meets its contract: what each call leaves, in a row. Assumes nothing.
 use Rattle.rules.proofs.Common.{List, ap, ◌∙◌, length-take, length-drop, Float}
 use native.Mathlib.Omega.{arith}
-use borrow.Author.Rules.{rules}
 use Rattle.rules.specs.Place.{get, put}
 use Rattle.rules.proofs.Refusals.{left as fitted}
 use Rattle.bands.specs.Bands.{band_gain}

@@ -1,6 +1,5 @@
 -- `frame::heard::check` meets its contract: what each call leaves, in a row. Assumes nothing.
 use mathlib.Core.Path.{ap, ◌∙◌}
-use borrow.Author.Rules.{rules}
 use Rattle.frame.specs.Frame.{checked}
 use Rattle.frame.proofs.heard.check.Goals as goal
 

@@ -1,6 +1,5 @@
 -- `frame::heard::compute_features` meets its contract: what each call leaves, in a row. Assumes nothing.
 use Rattle.rules.proofs.Common.{ℕ, List, ◌≡◌, ap, ◌∙◌, length, Float}
-use borrow.Author.Rules.{rules}
 use Rattle.rules.specs.F32.{at}
 use Rattle.rules.specs.Leaf.{◌leaving◌}
 use Rattle.rules.specs.Place.{get, put}

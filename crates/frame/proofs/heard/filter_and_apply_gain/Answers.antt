@@ -1,6 +1,5 @@
 -- `frame::heard::filter_and_apply_gain` meets its contract: what each call leaves, in a row. Assumes nothing.
 use Rattle.rules.proofs.Common.{List, ap, ◌∙◌, Float}
-use borrow.Author.Rules.{rules}
 use Rattle.rules.proofs.Refusals.{left as fitted}
 use Rattle.bands.specs.Bands.{band_gain}
 use Rattle.features.specs.Pitch.{applied}

@@ -1,7 +1,6 @@
 -- `frame::heard::hear_in` meets its contract: what each call leaves, in a row. Assumes nothing.
 use Rattle.rules.proofs.Common.{List, sym, ap₂, ◌∙◌, Float}
 use native.Mathlib.Omega.{arith}
-use borrow.Author.Rules.{rules}
 use Rattle.rules.specs.Place.{get}
 use Rattle.rules.proofs.Refusals.{left as fitted}
 use Rattle.frame.specs.Heard.{spoken_from}

@@ -1,5 +1,4 @@
 -- `frame::heard::judge` meets its contract: each answer by the tests that lead to it. Assumes nothing.
-use borrow.Author.Rules.{rules}
 use Rattle.rules.proofs.Tests.{tests}
 use Rattle.frame.specs.Frame.{checked}
 use Rattle.frame.proofs.heard.judge.Goals as goal

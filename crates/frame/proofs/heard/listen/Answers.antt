@@ -1,6 +1,5 @@
 -- `frame::heard::listen` meets its contract. Assumes nothing.
-use Rattle.rules.proofs.Common.{[], ◌∷◌, sym, ◌∙◌}
-use borrow.Author.Rules.{rules}
+use Rattle.rules.proofs.Common.{sym, ◌∙◌}
 use Rattle.rules.specs.Place.{get}
 use Rattle.rules.proofs.Refusals.{left as fitted, fitting}
 use Rattle.frame.proofs.Sizes.{x_size, ex_size}

@@ -1,7 +1,6 @@
 -- `frame::heard::process_heard_in` meets its contract: what each stage leaves, in a row. Assumes nothing.
 use Rattle.rules.proofs.Common.{ap, ◌∙◌, length}
 use native.Mathlib.Omega.{arith}
-use borrow.Author.Rules.{rules}
 use Rattle.frame.proofs.Sizes.{x_size, ex_size}
 use Rattle.frame.proofs.Spoken.{spoke}
 use Rattle.frame.proofs.heard.process_heard_in.Goals as goal

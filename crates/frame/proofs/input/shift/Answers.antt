@@ -1,11 +1,10 @@
 -- `frame::input::shift` meets its contract. The loop's invariant: the first i places hold what stood a frame further
 -- on, and the others are as they were. Assumes nothing.
-use Rattle.rules.proofs.Common.{◌+◌, ◌-◌, ◌≤◌, ◌≡◌, ap, ◌∙◌, take}
+use Rattle.rules.proofs.Common.{◌+◌, ◌≡◌, ap, ◌∙◌, take}
 use native.Mathlib.Omega.{arith}
 use lib.Seq.{take_at}
-use Rattle.rules.specs.F32.{at}
 use Rattle.rules.specs.Tab.{tab}
-use Rattle.rules.proofs.Lists.{Filling, filling_more, filling_ahead, fills, length_tab}
+use Rattle.rules.proofs.Lists.{filling_more, filling_ahead, fills, length_tab}
 use Rattle.frame.proofs.input.shift.Goals as goal
 
 pub loop-i-init : goal.loop-i-init

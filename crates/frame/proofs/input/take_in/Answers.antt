@@ -3,7 +3,6 @@ use Rattle.rules.proofs.Common.{◌+◌, List, [], ◌++◌, ◌≡◌, ap, ◌�
 use Rattle.rules.proofs.Common.{length-append, Float}
 use mathlib.Core.List.{append-nil}
 use native.Mathlib.Omega.{arith}
-use borrow.Author.Rules.{rules}
 use lib.ListN.{drop_of_length-le}
 use Rattle.rules.specs.F32.{at}
 use Rattle.rules.specs.Place.{get}

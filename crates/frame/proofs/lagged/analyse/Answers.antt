@@ -1,6 +1,5 @@
 -- `frame::lagged::analyse` meets its contract: the part of the share that is lent comes back scaled. Assumes nothing.
 use mathlib.Core.Path.{ap}
-use borrow.Author.Rules.{rules}
 use Rattle.rules.specs.Place.{put}
 use Rattle.frame.specs.Share.{kept_x}
 use Rattle.frame.proofs.lagged.analyse.Goals as goal

@@ -1,9 +1,9 @@
 -- `frame::lagged::lift` meets its contract. The loop's invariant: the first i energies are plusHundredth, and the
 -- others are as they were. Assumes nothing.
-use Rattle.rules.proofs.Common.{◌-◌, ◌≤◌, ap, Float}
+use Rattle.rules.proofs.Common.{ap, Float}
 use native.Mathlib.Omega.{arith}
-use Rattle.rules.specs.F32.{◌⊕◌, at, f32}
-use Rattle.rules.proofs.Lists.{Filling, filling_more, filling_ahead, fills}
+use Rattle.rules.specs.F32.{◌⊕◌, f32}
+use Rattle.rules.proofs.Lists.{filling_more, filling_ahead, fills}
 use Rattle.frame.specs.Frame.{plus_hundredth}
 use Rattle.frame.proofs.lagged.lift.Goals as goal
 

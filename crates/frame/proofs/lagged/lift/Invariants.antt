@@ -1,10 +1,8 @@
 -- `frame::lagged::lift` meets its contract. The loop's invariant: the first i energies are plusHundredth, and the
 -- others are as they were. Assumes nothing.
-use Rattle.rules.proofs.Common.{◌-◌, ◌≤◌, ap, Float}
-use native.Mathlib.Omega.{arith}
+use Rattle.rules.proofs.Common.{◌-◌, ◌≤◌}
 use Rattle.rules.specs.F32.{◌⊕◌, at, f32}
-use Rattle.rules.proofs.Lists.{Filling, filling_more, filling_ahead, fills}
-use Rattle.frame.specs.Frame.{plus_hundredth}
+use Rattle.rules.proofs.Lists.{Filling}
 use Rattle.frame.proofs.lagged.lift.Given as goal
 
 abbrev pub invariant-loop-i : goal.invariant-loop-i

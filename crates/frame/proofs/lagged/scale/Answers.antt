@@ -1,10 +1,7 @@
 -- `frame::lagged::scale` meets its contract. The loop's invariant: the first i places are scaled, and the others are as
 -- they were. Assumes nothing.
-use Prim.Native.Nat.{◌≤◌, ◌-◌}
 use native.Mathlib.Omega.{arith}
-use Rattle.rules.specs.F32.{◌⊗◌, at}
-use Rattle.rules.proofs.Lists.{Filling, filling_more, fills}
-use Rattle.bands.specs.Norm.{wnorm}
+use Rattle.rules.proofs.Lists.{filling_more, fills}
 use Rattle.frame.specs.Heard.{scaled}
 use Rattle.frame.proofs.lagged.scale.Goals as goal
 

@@ -1,11 +1,9 @@
 -- `frame::lagged::scale` meets its contract. The loop's invariant: the first i places are scaled, and the others are as
 -- they were. Assumes nothing.
 use Prim.Native.Nat.{◌≤◌, ◌-◌}
-use native.Mathlib.Omega.{arith}
 use Rattle.rules.specs.F32.{◌⊗◌, at}
-use Rattle.rules.proofs.Lists.{Filling, filling_more, fills}
+use Rattle.rules.proofs.Lists.{Filling}
 use Rattle.bands.specs.Norm.{wnorm}
-use Rattle.frame.specs.Heard.{scaled}
 use Rattle.frame.proofs.lagged.scale.Given as goal
 
 abbrev pub invariant-loop-i : goal.invariant-loop-i

@@ -1,13 +1,10 @@
 -- `frame::output::overlap` meets its contract. The loop's invariant: of both slices the first i places are written, and
 -- the others are as they were.
 -- Assumes nothing.
-use Rattle.rules.proofs.Common.{ℕ, ◌+◌, ◌-◌, ◌≤◌, ◌<◌, List, ◌≡◌, sym, ap, ◌∙◌, Float, nan}
-use native.Mathlib.Omega.{arith}
-use Rattle.rules.specs.F32.{◌⊕◌, ◌⊗◌, ◌⊘◌, at, f32}
-use Rattle.rules.proofs.Lists.{Filling, filling_more, filling_ahead, fills, get_d_tab}
-use Rattle.bands.specs.Window.{window}
-use Rattle.bands.specs.Windowed.{windowed_by}
-use Rattle.frame.specs.Frame.{window_buf, overlapped, later_half}
+use Rattle.rules.proofs.Common.{◌+◌, ◌-◌, ◌≤◌}
+use Rattle.rules.specs.F32.{◌⊕◌, at}
+use Rattle.rules.proofs.Lists.{Filling}
+use Rattle.frame.specs.Frame.{window_buf}
 use Rattle.frame.proofs.output.overlap.Given as goal
 
 abbrev pub invariant-loop-i : goal.invariant-loop-i
