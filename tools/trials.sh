@@ -168,6 +168,10 @@ syntax_error() {
     edit specs/Checksum.antt 'BAD EDIT: the prover cannot read the edited text, so no contract was tried: ./specs/C'
 }
 type_error() {
+    edit specs/Checksum.antt 'BAD EDIT: the prover cannot read the edited text, so no contract was tried: ./specs/Ch'
+}
+# (rt tells most of these as bad itself)
+in_specs() {
     edit specs/Checksum.antt "$refused: ./specs/Checksum.antt:24:31: error: \`inverted\`: expected type \`ℕ\`, but this"
 }
 of_a_proof() {
@@ -194,7 +198,8 @@ quick() {
     trial other_constant 'differ' other_constant header
     trial long_line 'shorten the new ones' long_line columns
     trial syntax_error 'BAD    checksum/bad' syntax_error reasons
-    trial type_error 'ITSELF checksum/bad' type_error reasons
+    trial type_error 'BAD    checksum/bad' type_error reasons
+    trial in_specs 'ITSELF checksum/bad' in_specs reasons
     trial of_a_proof 'PROOF  checksum/bad' of_a_proof reasons
     trial name_gone 'SHAPE  checksum/bad' name_gone reasons
     trial not_refused 'PASSED checksum/bad' not_refused reasons
@@ -220,7 +225,7 @@ prover() {
     # a bad edit fails it
     (cd "$tree" && rt must-fail checksum >said) || true
     cat "$tree/said"
-    for name in 'BAD    checksum/syntax' 'ITSELF checksum/type' 'PROOF  checksum/proof'; do
+    for name in 'BAD    checksum/syntax' 'BAD    checksum/type' 'PROOF  checksum/proof'; do
         # the tool fails, as it must; what counts is what it says
         if { "$tree/tools/must_fail_reasons.sh" "$tree/said" || true; } | grep -qF -- "$name"; then
             echo "trial prover, $name: refused"

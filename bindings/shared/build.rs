@@ -1,6 +1,7 @@
 //! Links the proved static library under other names: each `tuppence_x` of it becomes `proved_tuppence_x`, because the
 //! shared library itself has a `tuppence_x` that checks its pointers and then calls it.
 
+use std::fs::read_dir;
 use std::path::{Path, PathBuf};
 use std::process::Command;
 
@@ -29,7 +30,10 @@ fn main() {
     output(&mut Command::new(&tool));
     let out = PathBuf::from(std::env::var("OUT_DIR").unwrap());
     renamed(&archive, &out.join("libproved.a"));
-    for path in [root.join("crates"), root.join("crates.txt"), archive, tool] {
+    let of_crates = read_dir(root.join("crates")).unwrap().flatten().map(|krate| krate.path());
+    // not out/, where rt keeps what it proved
+    let parts = of_crates.flat_map(|krate| ["src", "specs", "proofs"].map(|part| krate.join(part)));
+    for path in parts.filter(|part| part.exists()).chain([root.join("crates.txt"), archive, tool]) {
         println!("cargo:rerun-if-changed={}", path.display());
     }
     println!("cargo:rustc-link-search=native={}", out.display());
