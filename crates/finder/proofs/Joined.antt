@@ -1,5 +1,6 @@
 -- What the calls ensure, in a row. Assumes nothing.
-use Rattle.rules.proofs.Common.{ℕ, ◌-◌, ◌≤◌, ◌<◌, Bool, cond, List, [], ◌∷◌, ◌≡◌, refl, ap, ◌∙◌, length, take, drop}
+use Rattle.std.specs.Prelude.{◌-◌, ◌≤◌, ◌<◌, ◌∷◌, ◌≡◌}
+use Rattle.rules.proofs.Common.{ℕ, Bool, cond, List, [], refl, ap, ◌∙◌, length, take, drop}
 use Rattle.rules.proofs.Common.{set, length-drop, Float, lt}
 use native.Mathlib.Omega.{arith}
 use lib.Seq.{take_all}
@@ -93,7 +94,8 @@ pub near_of : (buf : List Float) {p : Pitches} {first second : ℕ} → p ≡ co
 near_of buf e f s = rw (f, s, e) (coarse_small buf)
 
 -- the finer one
-pub best_of_lem : (buf : List Float) (first second : ℕ) {xcorr : List Float} {found : Pitches} {best : ℕ} → length buf ≡ 864
+pub best_of_lem : (buf : List Float) (first second : ℕ) {xcorr : List Float} {found : Pitches} {best : ℕ}
+    → length buf ≡ 864
     → xcorr ≡ fine buf first second
     → Leaf (BestFits (length xcorr) (length buf) 480) found (best_of xcorr buf 480) (Pitches.Refused 5)
     → best ≡ first_of found

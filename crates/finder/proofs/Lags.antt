@@ -1,6 +1,7 @@
 -- A kept lag, as a whole number: it is at most 768 (`lag_small`), and of a whole number up to there it is that number
 -- (`lag_back`). Assumes nothing.
-use Rattle.rules.proofs.Common.{ℕ, zero, suc, ◌+◌, ◌*◌, ◌≤◌, ◌<◌, Bool, true, false, cond, true≢false, ◌≡◌, refl, sym}
+use Rattle.std.specs.Prelude.{◌+◌, ◌*◌, ◌≤◌, ◌<◌, ◌≡◌}
+use Rattle.rules.proofs.Common.{ℕ, zero, suc, Bool, true, false, cond, true≢false, refl, sym}
 use Rattle.rules.proofs.Common.{ap, ◌∙◌, leb, T, pos, Float}
 use Rattle.rules.proofs.Common.{binary32, nan, inf, fin, up, down}
 use Prim.Native.Nat.{min}

@@ -1,5 +1,6 @@
 -- How far the places reach: no index leaves its list, and the period is 60 to 767. Assumes nothing.
-use Rattle.rules.proofs.Common.{ℕ, zero, suc, ◌+◌, ◌-◌, ◌*◌, ◌/◌, ◌≤◌, ◌<◌, Bool, true, false, cond, ◌&&◌, List, ◌≡◌}
+use Rattle.std.specs.Prelude.{◌+◌, ◌-◌, ◌*◌, ◌/◌, ◌≤◌, ◌<◌, ◌&&◌, ◌≡◌}
+use Rattle.rules.proofs.Common.{ℕ, zero, suc, Bool, true, false, cond, List}
 use Rattle.rules.proofs.Common.{refl, eqb, leb, ltb, length}
 use Rattle.rules.proofs.Common.{drop, Float, lt}
 use native.Mathlib.Nat.{div-lt_iff_lt-mul, mul-le-mul}

@@ -1,8 +1,8 @@
 -- `pitch_gain` and `remove_doubling` of pitch.rs. `x` is the text's `pitch_buf`, 864 numbers; max_period is 384,
 -- min_period 30, and n 480.
-use Rattle.rules.specs.Common.{ℕ, ◌+◌, ◌-◌, ◌*◌, ◌/◌, min, cond, ◌&&◌, List, [], ◌∷◌, eqb, leb, ltb, drop, Float}
+use Rattle.rules.specs.Common.{ℕ, min, cond, List, [], eqb, leb, ltb, drop, Float}
 use Rattle.rules.specs.Common.{binary32, lt, le}
-use Rattle.std.specs.Prelude.{max}
+use Rattle.std.specs.Prelude.{max, ◌+◌, ◌-◌, ◌*◌, ◌/◌, ◌&&◌, ◌∷◌}
 use Rattle.rules.specs.F32.{◌⊕◌, ◌⊖◌, ◌⊗◌, ◌⊘◌, at, nat_at, f32, one, two}
 use Rattle.rules.specs.Loop.{range, walk, Flow, go, stop, value}
 use Rattle.rules.specs.Tab.{tab}

@@ -1,6 +1,7 @@
 -- `PitchFinder::process` of pitch.rs, with `last_period` and `last_gain` as two numbers that go in. They come out as
 -- the period and the gain.
-use Rattle.rules.specs.Common.{ℕ, ◌-◌, List, Float}
+use Rattle.std.specs.Prelude.{◌-◌}
+use Rattle.rules.specs.Common.{ℕ, List, Float}
 use Rattle.rules.specs.F32.{f32}
 use Rattle.pitch.specs.Downsample.{downsampled}
 use Rattle.finder.specs.Doubling.{remove_doubling}

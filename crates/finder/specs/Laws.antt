@@ -1,5 +1,6 @@
 -- The finder: what is claimed. The proofs are in proofs/Ranges.antt and proofs/Lags.antt.
-use Rattle.rules.specs.Common.{ℕ, ◌≤◌, List, ◌≡◌, pos, Float, binary32, of_int}
+use Rattle.std.specs.Prelude.{◌≤◌, ◌≡◌}
+use Rattle.rules.specs.Common.{ℕ, List, pos, Float, binary32, of_int}
 use Rattle.finder.specs.Finder.{find}
 use Rattle.finder.specs.Kept.{whole_lag}
 

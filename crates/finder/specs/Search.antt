@@ -1,5 +1,6 @@
 -- `pitch_search` of pitch.rs. `buf` is the text's `pitch_buf`, 864 numbers: x_lp is &buf[384..], and y is buf.
-use Rattle.rules.specs.Common.{ℕ, ◌+◌, ◌-◌, ◌*◌, cond, ◌&&◌, List, ltb, drop, Float, lt, neg}
+use Rattle.std.specs.Prelude.{◌+◌, ◌-◌, ◌*◌, ◌&&◌}
+use Rattle.rules.specs.Common.{ℕ, cond, List, ltb, drop, Float, lt, neg}
 use Rattle.rules.specs.F32.{◌⊖◌, ◌⊗◌, at, f32, one}
 use Rattle.rules.specs.Tab.{tab}
 use Rattle.numbers.specs.Larger.{larger}

@@ -1,5 +1,6 @@
 -- The leaves of `pitch`, joined: what each call ensures, in a row. Assumes nothing.
-use Rattle.rules.proofs.Common.{ℕ, ◌-◌, ◌*◌, ◌<◌, List, ◌≡◌, ap, ◌∙◌, length, take, drop, Float}
+use Rattle.std.specs.Prelude.{◌-◌, ◌*◌, ◌<◌, ◌≡◌}
+use Rattle.rules.proofs.Common.{ℕ, List, ap, ◌∙◌, length, take, drop, Float}
 use native.Mathlib.Omega.{arith}
 use Rattle.rules.specs.Leaf.{Leaf}
 use Rattle.rules.proofs.Refusals.{fitting}

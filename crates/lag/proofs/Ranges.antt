@@ -1,5 +1,6 @@
 -- What our lag may be: 182 to 768, and 768 where no correlation is positive. Assumes nothing.
-use Rattle.rules.proofs.Common.{◌<◌, List, ◌≡◌, length, Float}
+use Rattle.std.specs.Prelude.{◌<◌, ◌≡◌}
+use Rattle.rules.proofs.Common.{List, length, Float}
 use native.Mathlib.Omega.{arith}
 use Rattle.rules.proofs.Lists.{length_tab}
 use Rattle.pitch.specs.Xcorr.{pitch_xcorr}

@@ -1,6 +1,7 @@
 -- The lag that a bench finds by itself (request 04), over the definitions of `pitch` and `pitch_search`. The rule is
 -- our own: it is simpler than `PitchFinder::process` of nnnoiseless, which is in the crate `finder`.
-use Rattle.rules.specs.Common.{ℕ, ◌-◌, ◌*◌, List, Float}
+use Rattle.std.specs.Prelude.{◌-◌, ◌*◌}
+use Rattle.rules.specs.Common.{ℕ, List, Float}
 use Rattle.rules.specs.F32.{part}
 use Rattle.pitch.specs.Xcorr.{pitch_xcorr}
 use Rattle.pitch_search.specs.Best.{best_of, first_of}

@@ -1,6 +1,7 @@
 -- What is claimed of the lag that a bench finds by itself, whatever numbers it is given. The proofs are in
 -- proofs/Ranges.
-use Rattle.rules.specs.Common.{ℕ, ◌%◌, ◌≤◌, ◌<◌, false, List, ◌≡◌, Float, lt}
+use Rattle.std.specs.Prelude.{◌%◌, ◌≤◌, ◌<◌, ◌≡◌}
+use Rattle.rules.specs.Common.{ℕ, false, List, Float, lt}
 use Rattle.rules.specs.F32.{at, f32}
 use Rattle.pitch.specs.Downsample.{downsampled}
 use Rattle.lag.specs.Lag.{correlations, own_lag}

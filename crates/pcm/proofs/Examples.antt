@@ -1,6 +1,7 @@
 -- Samples by the definition, computed: what lies beyond a sample's range is clipped, and a NaN and an infinity stay.
 -- Assumes nothing.
-use Rattle.rules.proofs.Common.{[], ◌∷◌, ◌≡◌, refl, nan, inf, false}
+use Rattle.std.specs.Prelude.{◌∷◌, ◌≡◌}
+use Rattle.rules.proofs.Common.{[], refl, nan, inf, false}
 use lib.Ieee.{of_bits, of_int, le, lt, eq, neg, mul, div, add}
 use Rattle.rules.specs.F32.{f32}
 use Rattle.rules.specs.Tab.{tab}

@@ -1,7 +1,8 @@
 -- Recorded bytes as samples, and samples as bytes, as a WAV file has them: the low byte first, and the channels in
 -- turn. A sample is a number from -32768 to 32767. A format is named by its bits: 16 and 24 are whole numbers, 32 is a
 -- float, and 33 is a whole number of 32 bits.
-use Rattle.rules.specs.Common.{ℕ, ◌+◌, ◌-◌, ◌*◌, ◌/◌, ◌%◌, min, ◌≤◌, ◌<◌, Bool, cond, ◌&&◌, List, ◌≡◌, eqb, ltb, length}
+use Rattle.std.specs.Prelude.{◌+◌, ◌-◌, ◌*◌, ◌/◌, ◌%◌, ◌≤◌, ◌<◌, ◌&&◌, ◌≡◌}
+use Rattle.rules.specs.Common.{ℕ, min, Bool, cond, List, eqb, ltb, length}
 use Rattle.rules.specs.Common.{pos, Float, binary32, nan}
 use Rattle.rules.specs.Common.{inf, fin, of_int, le, neg, up, down, of_bits}
 use Rattle.rules.specs.F32.{◌⊕◌, ◌⊗◌, ◌⊘◌, f32, at, nat_at}
@@ -47,7 +48,8 @@ as_sample y = clipped (neg (f32 0x47000000)) (f32 0x46FFFE00) y
 -- Each part is exact, so the sum is rounded only once.
 unfoldable pub halves : List ℕ → ℕ → Float
 unfolding signed
-halves bytes a = signed 32768 (two_bytes_at bytes (a + 2)) ⊕ of_int binary32 (pos (two_bytes_at bytes a)) ⊘ f32 0x47800000
+halves bytes a = signed 32768 (two_bytes_at bytes (a + 2)) ⊕ of_int binary32 (pos (two_bytes_at bytes a)) ⊘ f32
+    0x47800000
 
 -- The sample whose bytes begin at place a. With 24 bits the lowest byte is a fraction. A float has full scale at 1: it
 -- is clipped to -1 and 32767 / 32768, and then scaled.

@@ -1,5 +1,6 @@
 -- Where a lag's sum begins: at +0.0 among the fours, at -0.0 behind them. Assumes nothing.
-use Rattle.rules.proofs.Common.{ℕ, ◌≤◌, ◌<◌, List, ◌≡◌, Float, neg}
+use Rattle.std.specs.Prelude.{◌≤◌, ◌<◌, ◌≡◌}
+use Rattle.rules.proofs.Common.{ℕ, List, Float, neg}
 use borrow.Author.Tests.{lt-ltb, le-ltb}
 use Rattle.rules.specs.F32.{f32}
 use Rattle.pitch.specs.Xcorr.{corr, whole_fours, lag_of}

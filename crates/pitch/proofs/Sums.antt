@@ -1,6 +1,7 @@
 -- Sums of four lags in a row: `sums_begin`, `sums_more` and `sums_ended` are their loop's, and `lags_stored` and
 -- `sixteen_stored` are of the loops that store them. Assumes nothing.
-use Rattle.rules.proofs.Common.{ℕ, ◌+◌, ◌≤◌, List, ◌≡◌, refl, ap, ◌∙◌, length, Float}
+use Rattle.std.specs.Prelude.{◌+◌, ◌≤◌, ◌≡◌}
+use Rattle.rules.proofs.Common.{ℕ, List, refl, ap, ◌∙◌, length, Float}
 use native.Mathlib.Nat.{add_assoc}
 use native.Mathlib.Omega.{arith}
 use Rattle.rules.specs.F32.{◌⊕◌, ◌⊗◌, at, f32}
@@ -41,7 +42,8 @@ module _ (xs ys : List Float) where
       (next_term (i + 2) j (p + 2) (omega arith) (ap (λ (s : Four). s.c) h))
       (next_term (i + 3) j (p + 3) (omega arith) (ap (λ (s : Four). s.d) h))
 
-  pub sums_ended : (i j : ℕ) {s : Four} → j ≤ length xs → length xs ≤ j → s ≡ four_sums xs ys j i → s ≡ four_lags xs ys i
+  pub sums_ended : (i j : ℕ) {s : Four} → j ≤ length xs → length xs ≤ j → s ≡ four_sums xs ys j i
+      → s ≡ four_lags xs ys i
   unfolding four_sums four_lags corr
   sums_ended i j below above h = let same : j ≡ length xs = omega arith in rw same at h
 

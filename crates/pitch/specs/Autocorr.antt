@@ -1,5 +1,6 @@
 -- `celt_autocorr` of pitch.rs: the autocorrelation at the lags 0 to 4.
-use Rattle.rules.specs.Common.{ℕ, ◌+◌, ◌-◌, ◌≤◌, List, ◌≡◌, length, take, Float}
+use Rattle.std.specs.Prelude.{◌+◌, ◌-◌, ◌≤◌, ◌≡◌}
+use Rattle.rules.specs.Common.{ℕ, List, length, take, Float}
 use Rattle.rules.specs.Loop.{range}
 use Rattle.rules.specs.F32.{◌⊕◌, ◌⊗◌, at, f32}
 use Rattle.rules.specs.Tab.{tab}

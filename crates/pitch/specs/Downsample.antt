@@ -1,5 +1,6 @@
 -- `pitch_downsample` of pitch.rs: 1,728 numbers become 864, which are then filtered to flatten their spectrum.
-use Rattle.rules.specs.Common.{ℕ, ◌+◌, ◌-◌, ◌*◌, cond, List, [], ◌∷◌, ◌≡◌, eqb, pos, Float, binary32, of_int}
+use Rattle.std.specs.Prelude.{◌+◌, ◌-◌, ◌*◌, ◌∷◌, ◌≡◌}
+use Rattle.rules.specs.Common.{ℕ, cond, List, [], eqb, pos, Float, binary32, of_int}
 use Rattle.rules.specs.Loop.{loop}
 use Rattle.rules.specs.Tab.{tab}
 use Rattle.rules.specs.F32.{◌⊕◌, ◌⊖◌, ◌⊗◌, ◌⊘◌, at, f32, one, two}

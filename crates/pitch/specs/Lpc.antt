@@ -1,5 +1,6 @@
 -- `lpc` of pitch.rs: linear predictive coding by Levinson and Durbin.
-use Rattle.rules.specs.Common.{ℕ, ◌+◌, ◌-◌, ◌/◌, cond, List, length, set, Float, lt, neg}
+use Rattle.std.specs.Prelude.{◌+◌, ◌-◌, ◌/◌}
+use Rattle.rules.specs.Common.{ℕ, cond, List, length, set, Float, lt, neg}
 use Rattle.std.specs.Float.Ieee.{eq}
 use Rattle.rules.specs.Loop.{loop, walk, Flow, go, stop, value}
 use Rattle.rules.specs.F32.{◌⊕◌, ◌⊖◌, ◌⊗◌, ◌⊘◌, at, f32, zeros}

@@ -1,5 +1,6 @@
 -- For the contracts of private functions: the sums at four and at sixteen neighbouring lags, side by side.
-use Rattle.rules.specs.Common.{ℕ, ◌+◌, ◌-◌, ◌%◌, List, set, Float}
+use Rattle.std.specs.Prelude.{◌+◌, ◌-◌, ◌%◌}
+use Rattle.rules.specs.Common.{ℕ, List, set, Float}
 use Rattle.rules.specs.Loop.{loop}
 use Rattle.rules.specs.F32.{◌⊕◌, ◌⊗◌, at, f32}
 use Rattle.pitch.specs.Xcorr.{term_step, corr}
@@ -30,7 +31,12 @@ four_lags xs ys i = four_of (corr (f32 0) xs ys) i
 -- The correlations at sixteen lags.
 unfoldable pub sixteen_lags : List Float → List Float → ℕ → Sixteen
 sixteen_lags xs ys i =
-    record { a = four_lags xs ys i; b = four_lags xs ys (i + 4); c = four_lags xs ys (i + 8); d = four_lags xs ys (i + 12) }
+    record {
+      a = four_lags xs ys i;
+      b = four_lags xs ys (i + 4);
+      c = four_lags xs ys (i + 8);
+      d = four_lags xs ys (i + 12);
+    }
 
 -- How many of n lags are computed sixteen at a time.
 abbrev pub whole_sixteens : ℕ → ℕ

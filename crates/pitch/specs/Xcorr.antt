@@ -1,5 +1,6 @@
 -- `pitch_xcorr` of pitch.rs, by the plain loop that its comment gives: for each lag, a sum in the order of the index.
-use Rattle.rules.specs.Common.{ℕ, ◌+◌, ◌-◌, ◌%◌, ◌≤◌, ◌<◌, cond, List, ltb, length, Float, neg}
+use Rattle.std.specs.Prelude.{◌+◌, ◌-◌, ◌%◌, ◌≤◌, ◌<◌}
+use Rattle.rules.specs.Common.{ℕ, cond, List, ltb, length, Float, neg}
 use Rattle.rules.specs.Loop.{loop}
 use Rattle.rules.specs.F32.{◌⊕◌, ◌⊗◌, at, f32}
 use Rattle.rules.specs.Tab.{tab}

@@ -1,5 +1,6 @@
 -- `find_best_pitch` at numbers that the Rust was run on, computed from the definition alone. Assumes nothing.
-use Rattle.rules.proofs.Common.{[], ◌∷◌, ◌≡◌, refl}
+use Rattle.std.specs.Prelude.{◌∷◌, ◌≡◌}
+use Rattle.rules.proofs.Common.{[], refl}
 use lib.Ieee.{lt, neg, is_nan, of_bits, add, sub, mul}
 use Rattle.rules.specs.Loop.{loop}
 use Rattle.rules.specs.F32.{one}

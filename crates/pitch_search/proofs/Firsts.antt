@@ -1,6 +1,7 @@
 -- The pitches of `find_best_pitch`: both are lags that were tried, and the first is 0 where no correlation is positive.
 -- Assumes nothing.
-use Rattle.rules.proofs.Common.{ℕ, ◌<◌, Bool, true, false, List, ◌≡◌, refl, ap, ◌∙◌, length, Float, lt, neg}
+use Rattle.std.specs.Prelude.{◌<◌, ◌≡◌}
+use Rattle.rules.proofs.Common.{ℕ, Bool, true, false, List, refl, ap, ◌∙◌, length, Float, lt, neg}
 use native.Mathlib.Omega.{arith}
 use Rattle.rules.specs.F32.{◌⊗◌, at, f32, one}
 use Rattle.rules.proofs.Loops.{kept}

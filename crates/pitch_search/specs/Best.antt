@@ -1,5 +1,6 @@
 -- `find_best_pitch` of pitch.rs: of some lags, the two with the largest normalised correlation.
-use Rattle.rules.specs.Common.{ℕ, ◌+◌, ◌≤◌, cond, List, length, Float, lt, neg}
+use Rattle.std.specs.Prelude.{◌+◌, ◌≤◌}
+use Rattle.rules.specs.Common.{ℕ, cond, List, length, Float, lt, neg}
 use Rattle.rules.specs.Loop.{loop}
 use Rattle.rules.specs.F32.{◌⊕◌, ◌⊖◌, ◌⊗◌, at, f32, one}
 use Rattle.numbers.specs.Larger.{larger}

@@ -1,5 +1,6 @@
 -- What is claimed of the two lags of `find_best_pitch`. The proofs are in proofs/Firsts.
-use Rattle.rules.specs.Common.{ℕ, ◌<◌, false, List, ◌≡◌, length, Float, lt}
+use Rattle.std.specs.Prelude.{◌<◌, ◌≡◌}
+use Rattle.rules.specs.Common.{ℕ, false, List, length, Float, lt}
 use Rattle.rules.specs.F32.{at, f32}
 use Rattle.pitch_search.specs.Best.{best_of, first_of, second_of}
 

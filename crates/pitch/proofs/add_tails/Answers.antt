@@ -1,5 +1,6 @@
 -- `pitch::add_tails` meets its contract. Assumes nothing.
-use Rattle.rules.proofs.Common.{◌≡◌, refl, ◌∙◌, length, length-set, nan}
+use Rattle.std.specs.Prelude.{◌≡◌}
+use Rattle.rules.proofs.Common.{refl, ◌∙◌, length, length-set, nan}
 use native.Mathlib.Omega.{arith}
 use Rattle.rules.specs.F32.{at}
 use Rattle.rules.proofs.Loops.{turns}

@@ -1,5 +1,6 @@
 -- `pitch::celt_autocorr_core` meets its contract. Assumes nothing.
-use Rattle.rules.proofs.Common.{◌-◌, ◌≡◌, sym, ap, ◌∙◌, length, take}
+use Rattle.std.specs.Prelude.{◌-◌, ◌≡◌}
+use Rattle.rules.proofs.Common.{sym, ap, ◌∙◌, length, take}
 use native.Mathlib.Omega.{arith}
 use lib.Seq.{length-take-le}
 use Rattle.pitch.specs.Autocorr.{add_tails, celt_autocorr}

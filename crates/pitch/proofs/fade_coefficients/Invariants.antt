@@ -1,5 +1,6 @@
 -- `pitch::fade_coefficients` meets its contract. Assumes nothing.
-use Rattle.rules.proofs.Common.{◌+◌, ◌-◌, ◌≤◌, ◌++◌, ◌≡◌, length, drop}
+use Rattle.std.specs.Prelude.{◌+◌, ◌-◌, ◌≤◌, ◌++◌, ◌≡◌}
+use Rattle.rules.proofs.Common.{length, drop}
 use Rattle.rules.specs.F32.{at, ◌⊗◌}
 use Rattle.rules.specs.Tab.{tab}
 use Rattle.pitch.specs.Downsample.{fade}

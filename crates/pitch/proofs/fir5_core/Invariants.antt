@@ -1,5 +1,6 @@
 -- `pitch::fir5_core` meets its contract. Assumes nothing.
-use Rattle.rules.proofs.Common.{◌≤◌, ◌≡◌, length}
+use Rattle.std.specs.Prelude.{◌≤◌, ◌≡◌}
+use Rattle.rules.proofs.Common.{length}
 use Rattle.rules.specs.Loop.{loop}
 use Rattle.pitch.specs.Fir.{fir, fir_start, fir_step}
 use Rattle.pitch.proofs.fir5_core.Given as goal

@@ -1,5 +1,6 @@
 -- `pitch::flatten_in` meets its contract: each call's result is the next one's argument. Assumes nothing.
-use Rattle.rules.proofs.Common.{ℕ, List, ◌≡◌, Float}
+use Rattle.std.specs.Prelude.{◌≡◌}
+use Rattle.rules.proofs.Common.{ℕ, List, Float}
 use Rattle.pitch.specs.Autocorr.{celt_autocorr}
 use Rattle.pitch.specs.Lpc.{lpc_of}
 use Rattle.pitch.specs.Downsample.{floored, faded_lpc, with_zero, coefficients}

@@ -1,5 +1,6 @@
 -- `pitch::lags` meets its contract. Assumes nothing.
-use Rattle.rules.proofs.Common.{◌+◌, refl, ap, ◌∙◌}
+use Rattle.std.specs.Prelude.{◌+◌}
+use Rattle.rules.proofs.Common.{refl, ap, ◌∙◌}
 use native.Mathlib.Omega.{arith}
 use Rattle.rules.specs.Loop.{stop}
 use Rattle.rules.proofs.Loops.{turns, walk_more, walk_ended, walk_stop}
@@ -25,8 +26,13 @@ returns-then-error-ac c =
 pub loop-i-preserved : goal.loop-i-preserved
 loop-i-preserved c =
     let l = c.loop-i in
-    let called = c.lag-error in
-    (omega arith, refl, called.auto.lpc ∙ l.invariant.2, walk_more _ _ _ l.invariant.3 (rw (← called.ensures, c.if-error-ac.false)))
+    let called = c.lag-error in (
+      omega arith,
+      refl,
+      called.auto.lpc ∙ l.invariant.2,
+      walk_more _ _ _ l.invariant.3
+          (rw (← called.ensures, c.if-error-ac.false)),
+    )
 
 pub returns : goal.returns
 returns c =

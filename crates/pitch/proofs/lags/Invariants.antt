@@ -1,5 +1,6 @@
 -- `pitch::lags` meets its contract. Assumes nothing.
-use Rattle.rules.proofs.Common.{◌≤◌, ◌≡◌, length}
+use Rattle.std.specs.Prelude.{◌≤◌, ◌≡◌}
+use Rattle.rules.proofs.Common.{length}
 use Rattle.rules.specs.Loop.{walk, go}
 use Rattle.pitch.specs.Lpc.{state, lpc_step}
 use Rattle.pitch.proofs.lags.Given as goal

@@ -1,5 +1,6 @@
 -- `pitch::pitch_downsample_core` meets its contract. Assumes nothing.
-use Rattle.rules.proofs.Common.{List, ◌≡◌, Float}
+use Rattle.std.specs.Prelude.{◌≡◌}
+use Rattle.rules.proofs.Common.{List, Float}
 use Rattle.pitch.specs.Fir.{fir5}
 use Rattle.pitch.specs.Downsample.{halved, coefficients, downsampled}
 use Rattle.pitch.proofs.pitch_downsample_core.Goals as goal

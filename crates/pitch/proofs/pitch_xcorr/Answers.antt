@@ -1,5 +1,6 @@
 -- `pitch::pitch_xcorr` meets its contract. Assumes nothing.
-use Rattle.rules.proofs.Common.{List, [], ◌∷◌, ◌≡◌, refl, length, Float}
+use Rattle.std.specs.Prelude.{◌∷◌, ◌≡◌}
+use Rattle.rules.proofs.Common.{List, [], refl, length, Float}
 use native.Mathlib.Omega.{arith}
 use Rattle.rules.specs.Tab.{tab}
 use Rattle.rules.specs.Leaf.{done, refused}

@@ -1,5 +1,5 @@
 -- `pitch::recur` meets its contract. Assumes nothing.
-use Rattle.rules.proofs.Common.{◌-◌, ◌≤◌, ◌≡◌}
+use Rattle.std.specs.Prelude.{◌-◌, ◌≤◌, ◌≡◌}
 use Rattle.rules.specs.Loop.{loop}
 use Rattle.pitch.specs.Lpc.{recurrence_step}
 use Rattle.pitch.proofs.recur.Given as goal

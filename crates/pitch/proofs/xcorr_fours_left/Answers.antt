@@ -1,5 +1,6 @@
 -- `pitch::xcorr_fours_left` meets its contract. Assumes nothing.
-use Rattle.rules.proofs.Common.{◌+◌, ◌*◌, ◌/◌, ◌≡◌, refl, length}
+use Rattle.std.specs.Prelude.{◌+◌, ◌*◌, ◌/◌, ◌≡◌}
+use Rattle.rules.proofs.Common.{refl, length}
 use native.Mathlib.Omega.{arith}
 use Rattle.rules.proofs.Lists.{tab_front, front_tab}
 use Rattle.pitch.specs.Xcorr.{whole_fours}

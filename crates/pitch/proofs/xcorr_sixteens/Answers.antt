@@ -1,5 +1,6 @@
 -- `pitch::xcorr_sixteens` meets its contract. Assumes nothing.
-use Rattle.rules.proofs.Common.{◌+◌, ◌*◌, ◌≡◌, refl, length}
+use Rattle.std.specs.Prelude.{◌+◌, ◌*◌, ◌≡◌}
+use Rattle.rules.proofs.Common.{refl, length}
 use native.Mathlib.Omega.{arith}
 use Rattle.rules.proofs.Lists.{filling_begin, front_tab}
 use Rattle.pitch.specs.Private.{whole_sixteens}

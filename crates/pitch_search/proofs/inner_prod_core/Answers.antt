@@ -1,5 +1,5 @@
 -- `pitch_search::inner_prod_core` meets its contract. Assumes nothing.
-use Rattle.rules.proofs.Common.{◌/◌}
+use Rattle.std.specs.Prelude.{◌/◌}
 use native.Mathlib.Omega.{arith}
 use Rattle.rules.proofs.Loops.{turns, ended, range_ended}
 use Rattle.pitch_search.proofs.inner_prod_core.Goals as goal

@@ -1,5 +1,5 @@
 -- `pitch_search::norm` meets its contract. Assumes nothing.
-use Rattle.rules.proofs.Common.{◌-◌, ◌≤◌, ◌≡◌}
+use Rattle.std.specs.Prelude.{◌-◌, ◌≤◌, ◌≡◌}
 use Rattle.rules.specs.Loop.{loop}
 use Rattle.pitch_search.specs.Best.{norm_step}
 use Rattle.pitch_search.proofs.norm.Given as goal

@@ -1,5 +1,6 @@
 -- `finder::doubling::look_up` meets its contract. Assumes nothing.
-use Rattle.rules.proofs.Common.{◌-◌, ◌≤◌, ◌≡◌, length}
+use Rattle.std.specs.Prelude.{◌-◌, ◌≤◌, ◌≡◌}
+use Rattle.rules.proofs.Common.{length}
 use Rattle.rules.specs.Loop.{range}
 use Rattle.rules.proofs.Lists.{Filling}
 use Rattle.finder.specs.Doubling.{yy_step, lookup_at}

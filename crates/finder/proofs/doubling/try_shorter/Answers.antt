@@ -1,5 +1,5 @@
 -- `finder::doubling::try_shorter` meets its contract. Assumes nothing.
-use Rattle.rules.proofs.Common.{◌+◌, ◌≤◌}
+use Rattle.std.specs.Prelude.{◌+◌, ◌≤◌}
 use native.Mathlib.Omega.{arith}
 use borrow.Author.Tests.{lt-ltb, le-ltb}
 use Rattle.rules.specs.Loop.{stop}

@@ -1,5 +1,5 @@
 -- `finder::doubling::try_shorter` meets its contract. Assumes nothing.
-use Rattle.rules.proofs.Common.{◌-◌, ◌≤◌, ◌≡◌}
+use Rattle.std.specs.Prelude.{◌-◌, ◌≤◌, ◌≡◌}
 use Rattle.rules.specs.Loop.{walk, go}
 use Rattle.finder.specs.Doubling.{shorter_step}
 use Rattle.finder.proofs.doubling.try_shorter.Given as goal

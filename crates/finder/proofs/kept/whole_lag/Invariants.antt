@@ -1,5 +1,5 @@
 -- `finder::kept::whole_lag` meets its contract. Assumes nothing.
-use Rattle.rules.proofs.Common.{◌-◌, ◌≤◌, ◌≡◌}
+use Rattle.std.specs.Prelude.{◌-◌, ◌≤◌, ◌≡◌}
 use Rattle.rules.specs.Loop.{range}
 use Rattle.finder.specs.Kept.{lag_step}
 use Rattle.finder.proofs.kept.whole_lag.Given as goal

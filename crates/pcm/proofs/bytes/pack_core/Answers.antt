@@ -1,6 +1,7 @@
 -- `pcm::bytes::pack_core` meets its contract: the first two places of each sample so far hold its bytes.
 -- Assumes nothing.
-use Rattle.rules.proofs.Common.{ℕ, ◌+◌, ◌*◌, ◌/◌, ◌%◌, ◌<◌, List, ◌≡◌, subst, ◌∙◌, length, set, length-set}
+use Rattle.std.specs.Prelude.{◌+◌, ◌*◌, ◌/◌, ◌%◌, ◌<◌, ◌≡◌}
+use Rattle.rules.proofs.Common.{ℕ, List, subst, ◌∙◌, length, set, length-set}
 use Rattle.rules.proofs.Common.{Float}
 use Rattle.std.proofs.Common.{arith}
 use Rattle.rules.specs.F32.{at}

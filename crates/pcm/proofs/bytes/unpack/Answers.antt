@@ -1,5 +1,6 @@
 -- `pcm::bytes::unpack` meets its contract: a refusal by the tests, else what the core ensures. Assumes nothing.
-use Rattle.rules.proofs.Common.{ℕ, ◌*◌, ◌<◌, ◌≡◌, refl}
+use Rattle.std.specs.Prelude.{◌*◌, ◌<◌, ◌≡◌}
+use Rattle.rules.proofs.Common.{ℕ, refl}
 use Rattle.std.proofs.Common.{mul-pos, arith}
 use Rattle.rules.specs.Leaf.{done, refused}
 use Rattle.rules.proofs.Refusals.{leaves}
@@ -28,7 +29,8 @@ overflow_mul-block c =
     )
 
 pub nonzero_rem-bytes : goal.nonzero_rem-bytes
-nonzero_rem-bytes c = some c.args.channels c.args.channel c.width_of-width.result c.if-width-eq0.false c.if-channel-channels.false
+nonzero_rem-bytes c = some c.args.channels c.args.channel c.width_of-width.result c.if-width-eq0.false
+    c.if-channel-channels.false
 
 pub returns-then-bytes-block-ne0 : goal.returns-then-bytes-block-ne0
 returns-then-bytes-block-ne0 c =
@@ -36,11 +38,14 @@ returns-then-bytes-block-ne0 c =
     refl
 
 pub nonzero_div-bytes : goal.nonzero_div-bytes
-nonzero_div-bytes c = some c.args.channels c.args.channel c.width_of-width.result c.if-width-eq0.false c.if-channel-channels.false
+nonzero_div-bytes c = some c.args.channels c.args.channel c.width_of-width.result c.if-width-eq0.false
+    c.if-channel-channels.false
 
 pub returns-then-bytes-block : goal.returns-then-bytes-block
 returns-then-bytes-block c =
-    refused (otherwise _ _ _ _ _ _ c.width_of-width.ensures (some c.args.channels c.args.channel c.width_of-width.result c.if-width-eq0.false c.if-channel-channels.false) c.if-bytes-block.true)
+    refused (otherwise _ _ _ _ _ _ c.width_of-width.ensures
+    (some c.args.channels c.args.channel c.width_of-width.result c.if-width-eq0.false c.if-channel-channels.false)
+    c.if-bytes-block.true)
     refl
 
 pub unpack_core-requires : goal.unpack_core-requires

@@ -1,11 +1,13 @@
 -- `pcm::bytes::unpack_core` meets its contract: the first i places hold the first i samples of the channel.
 -- Assumes nothing.
-use Rattle.rules.proofs.Common.{◌≤◌, ◌≡◌, length}
+use Rattle.std.specs.Prelude.{◌≤◌, ◌≡◌}
+use Rattle.rules.proofs.Common.{length}
 use Rattle.rules.proofs.Lists.{Filling}
 use Rattle.pcm.specs.Pcm.{width, sample_place, number_at, UnpackFits}
 use Rattle.pcm.proofs.bytes.unpack_core.Given as goal
 
 abbrev pub invariant-loop-i : goal.invariant-loop-i
-invariant-loop-i l = (l.i ≤ l.i-end) × (l.i-end ≡ length l.initial.out) × UnpackFits (length l.initial.out) (length l.bytes) l.format l.channels l.channel
+invariant-loop-i l = (l.i ≤ l.i-end) × (l.i-end ≡ length l.initial.out)
+    × UnpackFits (length l.initial.out) (length l.bytes) l.format l.channels l.channel
     × (l.width ≡ width l.format)
     × Filling (λ k. number_at l.format l.bytes (sample_place l.format l.channels l.channel k)) l.initial.out l.i l.out

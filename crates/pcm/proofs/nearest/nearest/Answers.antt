@@ -1,6 +1,7 @@
 -- `pcm::nearest::nearest` meets its contract: each way through it is a case of proofs/Rounding. Assumes nothing.
+use Rattle.std.specs.Prelude.{◌-◌, ◌%◌}
 use Rattle.std.proofs.Common.{arith}
-use Rattle.rules.proofs.Common.{ℕ, ◌-◌, ◌%◌, sym, ap, ◌∙◌}
+use Rattle.rules.proofs.Common.{ℕ, sym, ap, ◌∙◌}
 use Rattle.pcm.proofs.Rounding.{of_nan, negative, others}
 use Rattle.pcm.proofs.nearest.nearest.Goals as goal
 

@@ -1,5 +1,6 @@
 -- `pcm::number::clipped` meets its contract: each answer by the tests that lead to it. Assumes nothing.
-use Rattle.rules.proofs.Common.{true, false, ◌≡◌, le, neg}
+use Rattle.std.specs.Prelude.{◌≡◌}
+use Rattle.rules.proofs.Common.{true, false, le, neg}
 use Rattle.rules.specs.F32.{f32}
 use Rattle.pcm.specs.Pcm.{clipped}
 use Rattle.pcm.proofs.number.clipped.Goals as goal

@@ -1,5 +1,6 @@
 -- `pitch::lanes::corr16` meets its contract. Assumes nothing.
-use Rattle.rules.proofs.Common.{◌+◌, refl}
+use Rattle.std.specs.Prelude.{◌+◌}
+use Rattle.rules.proofs.Common.{refl}
 use native.Mathlib.Omega.{arith}
 use Rattle.rules.proofs.Loops.{turns}
 use Rattle.pitch.proofs.Sums.{sums_begin, sums_more, sums_ended, together}

@@ -1,8 +1,10 @@
 -- `pitch::lanes::corr16` meets its contract. Assumes nothing.
-use Rattle.rules.proofs.Common.{◌+◌, ◌≤◌, ◌≡◌, length}
+use Rattle.std.specs.Prelude.{◌+◌, ◌≤◌, ◌≡◌}
+use Rattle.rules.proofs.Common.{length}
 use Rattle.pitch.specs.Private.{four_sums}
 use Rattle.pitch.proofs.lanes.corr16.Given as goal
 
 abbrev pub invariant-loop-j : goal.invariant-loop-j
-invariant-loop-j l = (l.j ≤ l.j-end) × (l.j-end ≡ length l.xs) × (l.a ≡ four_sums l.xs l.ys l.j l.i) × (l.b ≡ four_sums l.xs l.ys l.j (l.i + 4))
+invariant-loop-j l = (l.j ≤ l.j-end) × (l.j-end ≡ length l.xs) × (l.a ≡ four_sums l.xs l.ys l.j l.i)
+    × (l.b ≡ four_sums l.xs l.ys l.j (l.i + 4))
     × (l.c ≡ four_sums l.xs l.ys l.j (l.i + 8)) × (l.d ≡ four_sums l.xs l.ys l.j (l.i + 12))

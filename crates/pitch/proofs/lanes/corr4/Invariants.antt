@@ -1,5 +1,6 @@
 -- `pitch::lanes::corr4` meets its contract. Assumes nothing.
-use Rattle.rules.proofs.Common.{◌≤◌, ◌≡◌, length}
+use Rattle.std.specs.Prelude.{◌≤◌, ◌≡◌}
+use Rattle.rules.proofs.Common.{length}
 use Rattle.pitch.specs.Private.{four_sums}
 use Rattle.pitch.proofs.lanes.corr4.Given as goal
 
