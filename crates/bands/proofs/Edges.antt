@@ -1,6 +1,7 @@
 -- What the proofs need of the band edges: they rise, band i's is at least i, the last is 400, and no band has more than
 -- 88 bins. Assumes nothing.
-use Rattle.rules.proofs.Common.{ℕ, ◌+◌, ◌-◌, ◌≤◌, ◌<◌, List, ◌≡◌, leb, ltb, get_or}
+use Rattle.std.specs.Prelude.{◌+◌, ◌-◌, ◌≤◌, ◌<◌, ◌≡◌}
+use Rattle.rules.proofs.Common.{ℕ, List, leb, ltb, get_or}
 use lib.Dec.{leb→le, ltb→lt}
 use Rattle.rules.proofs.Tests.{at_each}
 use Rattle.bands.specs.Bands.{edges, edge}

@@ -1,5 +1,6 @@
 -- What callers need of the results: their lengths; and that the gains of bins 400 to 480 are 0. Assumes nothing.
-use Rattle.rules.proofs.Common.{ℕ, ◌+◌, ◌-◌, ◌≤◌, ◌<◌, List, ◌≡◌, ◌∙◌, length, length-set, Float, nan}
+use Rattle.std.specs.Prelude.{◌+◌, ◌-◌, ◌≤◌, ◌<◌, ◌≡◌}
+use Rattle.rules.proofs.Common.{ℕ, List, ◌∙◌, length, length-set, Float, nan}
 use native.Mathlib.Omega.{arith}
 use lib.ListN.{length-replicate, get_or-replicate}
 use lib.Seq.{get_or-set_other}

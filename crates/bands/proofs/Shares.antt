@@ -1,7 +1,8 @@
 -- Bins are added to a band and the next. The code holds the two sums in locals, and the definition in their places: a
 -- turn of the one is a turn of the other.
 -- Assumes nothing.
-use Rattle.rules.proofs.Common.{ℕ, ◌+◌, ◌-◌, ◌<◌, List, ◌≡◌, refl, sym, ◌∙◌, length, set, length-set, pos, Float}
+use Rattle.std.specs.Prelude.{◌+◌, ◌-◌, ◌<◌, ◌≡◌}
+use Rattle.rules.proofs.Common.{ℕ, List, refl, sym, ◌∙◌, length, set, length-set, pos, Float}
 use Rattle.rules.proofs.Common.{binary32, nan}
 use native.Mathlib.Omega.{arith}
 use lib.Seq.{get_or-set_same, get_or-set_other, set-get_or, set-set, set_comm}
@@ -22,7 +23,8 @@ module _ (out : List Float) (i : ℕ) where
   module _ (fits : i + 1 < length out) (low high a b : Float) where
     low_is : at (held low high) i ≡ low
     low_is =
-        get_or-set_other (set out i low) (i + 1) i high nan (λ e. omega arith) ∙ get_or-set_same out i low nan (omega arith)
+        get_or-set_other (set out i low) (i + 1) i high nan (λ e. omega arith)
+        ∙ get_or-set_same out i low nan (omega arith)
 
     low_more : added (held low high) i a ≡ held (low ⊕ a) high
     low_more =

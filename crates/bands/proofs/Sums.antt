@@ -1,6 +1,7 @@
 -- The 22 sums of the DCT, row by row: none has a product yet, each gets its next one, and all are scaled.
 -- Assumes nothing.
-use Rattle.rules.proofs.Common.{ℕ, ◌+◌, ◌<◌, List, ◌≡◌, sym, ap, ◌∙◌, length, Float, nan}
+use Rattle.std.specs.Prelude.{◌+◌, ◌<◌, ◌≡◌}
+use Rattle.rules.proofs.Common.{ℕ, List, sym, ap, ◌∙◌, length, Float, nan}
 use Rattle.rules.specs.Loop.{loop}
 use Rattle.rules.specs.F32.{at, f32, zeros}
 use Rattle.rules.specs.Tab.{tab}

@@ -1,6 +1,7 @@
 -- The window's rule: six tests, each of which antt computes once over the whole table, and what they say at each entry.
 -- Assumes nothing.
-use Rattle.rules.proofs.Common.{ℕ, ◌+◌, ◌-◌, ◌^◌, ◌<◌, Bool, true, false, refl, eqb, leb, ltb, T}
+use Rattle.std.specs.Prelude.{◌+◌, ◌-◌, ◌^◌, ◌<◌}
+use Rattle.rules.proofs.Common.{ℕ, Bool, true, false, refl, eqb, leb, ltb, T}
 use lib.Dec.{leb→le, ltb→lt, eqb→eq, lt→ltb}
 use lib.Ieee.{of_bits, round}
 use Rattle.bands.specs.Window.{window, window_bits}

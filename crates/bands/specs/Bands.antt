@@ -1,5 +1,6 @@
 -- `compute_band_corr` and `interp_band_gain` of lib.rs.
-use Rattle.rules.specs.Common.{ℕ, ◌+◌, ◌-◌, ◌*◌, List, [], ◌∷◌, map, ◌≡◌, set, pos, Float, binary32, of_int}
+use Rattle.std.specs.Prelude.{◌+◌, ◌-◌, ◌*◌, ◌∷◌, ◌≡◌}
+use Rattle.rules.specs.Common.{ℕ, List, [], map, set, pos, Float, binary32, of_int}
 use Rattle.rules.specs.Loop.{loop}
 use Rattle.rules.specs.F32.{◌⊕◌, ◌⊖◌, ◌⊗◌, ◌⊘◌, at, nat_at, one, two, zeros}
 use Rattle.rules.specs.Spectrum.{re, im}

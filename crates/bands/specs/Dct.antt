@@ -1,5 +1,6 @@
 -- `dct` of lib.rs.
-use Rattle.rules.specs.Common.{ℕ, ◌+◌, ◌*◌, List, ◌≡◌, Float, binary64, of_bits}
+use Rattle.std.specs.Prelude.{◌+◌, ◌*◌, ◌≡◌}
+use Rattle.rules.specs.Common.{ℕ, List, Float, binary64, of_bits}
 use Rattle.std.specs.Float.Ieee.{mul, div}
 use Rattle.rules.specs.Loop.{loop}
 use Rattle.rules.specs.Tab.{tab}

@@ -1,5 +1,6 @@
 -- The DCT's 22 rows of 22 numbers, `dct_table` in `common()` of lib.rs: by their bit patterns.
-use Rattle.rules.specs.Common.{ℕ, List, [], ◌∷◌, ◌++◌, map, Float, of_bits}
+use Rattle.std.specs.Prelude.{◌∷◌, ◌++◌}
+use Rattle.rules.specs.Common.{ℕ, List, [], map, Float, of_bits}
 use Rattle.rules.specs.F32.{f32}
 
 abbrev half_row : ℕ → ℕ → ℕ → ℕ → ℕ → ℕ → ℕ → ℕ → ℕ → ℕ → ℕ → List ℕ

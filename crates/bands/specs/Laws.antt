@@ -1,6 +1,7 @@
 -- What is claimed of the bands' results. The proofs are in proofs/Results, proofs/Norm and proofs/Scale; the window's
 -- rule stands in WindowRule.
-use Rattle.rules.specs.Common.{ℕ, ◌≤◌, ◌<◌, List, ◌≡◌, length, Float, binary64, of_bits}
+use Rattle.std.specs.Prelude.{◌≤◌, ◌<◌, ◌≡◌}
+use Rattle.rules.specs.Common.{ℕ, List, length, Float, binary64, of_bits}
 use Rattle.rules.specs.F32.{at, f32}
 use Rattle.bands.specs.Bands.{band_corr, band_gain}
 use Rattle.bands.specs.Dct.{dct_scale, dct_of}

@@ -1,5 +1,6 @@
 -- `wnorm` of lib.rs, `common`: 1_f32 / window.iter().map(|x| x * x).sum::<f32>(). Rust's f32 sum starts from -0.0.
-use Rattle.rules.specs.Common.{List, [], ◌∷◌, Float, neg}
+use Rattle.std.specs.Prelude.{◌∷◌}
+use Rattle.rules.specs.Common.{List, [], Float, neg}
 use Rattle.rules.specs.F32.{◌⊕◌, ◌⊗◌, ◌⊘◌, f32, one}
 use Rattle.bands.specs.Window.{window}
 

@@ -1,6 +1,7 @@
 -- The window's rule, over whole numbers: entry i counts 2^-41, the unit of its smallest entry. `proofs/WindowRule.antt`
 -- shows the claim.
-use Rattle.rules.specs.Common.{ℕ, ◌+◌, ◌-◌, ◌*◌, ◌/◌, ◌^◌, ◌≤◌, ◌<◌, true, false, List, map, ◌≡◌, Float, binary32, nan}
+use Rattle.std.specs.Prelude.{◌+◌, ◌-◌, ◌*◌, ◌/◌, ◌^◌, ◌≤◌, ◌<◌, ◌≡◌}
+use Rattle.rules.specs.Common.{ℕ, true, false, List, map, Float, binary32, nan}
 use Rattle.rules.specs.Common.{inf, fin, up, down, round}
 use Rattle.rules.specs.F32.{nat_at}
 use Rattle.bands.specs.Window.{window}

@@ -1,5 +1,6 @@
 -- `apply_window` and `apply_window_in_place` of lib.rs.
-use Rattle.rules.specs.Common.{ℕ, List, ◌≡◌, Float}
+use Rattle.std.specs.Prelude.{◌≡◌}
+use Rattle.rules.specs.Common.{ℕ, List, Float}
 use Rattle.rules.specs.Tab.{tab}
 use Rattle.rules.specs.F32.{◌⊗◌, at}
 use Rattle.bands.specs.Window.{window}

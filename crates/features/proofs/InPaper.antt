@@ -1,5 +1,6 @@
 -- What document 01 says of silent and heard. Assumes nothing.
-use Rattle.rules.proofs.Common.{Bool, true, false, cond, [], ◌∷◌, ◌≡◌, refl}
+use Rattle.std.specs.Prelude.{◌∷◌, ◌≡◌}
+use Rattle.rules.proofs.Common.{Bool, true, false, cond, [], refl}
 use Rattle.features.specs.Silence.{is_silent, sound_number, sound_values, sound_of}
 use Rattle.features.specs.Laws.{SoundInPaper}
 use Rattle.features.specs.declared.Sound.{Sound}

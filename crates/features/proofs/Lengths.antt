@@ -1,5 +1,6 @@
 -- How many numbers each definition gives. Assumes nothing.
-use Rattle.rules.proofs.Common.{ℕ, ◌≤◌, List, ◌≡◌, refl, ◌∙◌, length, length-set, length-drop, length-append, Float}
+use Rattle.std.specs.Prelude.{◌≤◌, ◌≡◌}
+use Rattle.rules.proofs.Common.{ℕ, List, refl, ◌∙◌, length, length-set, length-drop, length-append, Float}
 use native.Mathlib.Omega.{arith}
 use Rattle.rules.proofs.Places.{length_put}
 use Rattle.rules.proofs.Lists.{length_tab}

@@ -1,5 +1,6 @@
 -- Where the features lie among the 42, and what stays where others are written. Assumes nothing.
-use Rattle.rules.proofs.Common.{ℕ, ◌+◌, List, [], ◌∷◌, ◌++◌, ◌≡◌, sym, ap, ◌∙◌, length, take, drop, set, length-take}
+use Rattle.std.specs.Prelude.{◌+◌, ◌∷◌, ◌++◌, ◌≡◌}
+use Rattle.rules.proofs.Common.{ℕ, List, [], sym, ap, ◌∙◌, length, take, drop, set, length-take}
 use Rattle.rules.proofs.Common.{length-drop, length-append}
 use Rattle.rules.proofs.Common.{Float}
 use mathlib.Core.Logic.{inl}

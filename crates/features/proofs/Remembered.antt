@@ -1,6 +1,7 @@
 -- The two laws of remembered gains, for any gains g, NaN among them: no remembered gain becomes NaN, and each is at
 -- least 0.6 of its predecessor. Assumes nothing.
-use Rattle.rules.proofs.Common.{ℕ, ◌<◌, true, false, List, ◌≡◌, Float, nan, le, is_nan}
+use Rattle.std.specs.Prelude.{◌<◌, ◌≡◌}
+use Rattle.rules.proofs.Common.{ℕ, true, false, List, Float, nan, le, is_nan}
 use Rattle.rules.specs.F32.{at}
 use Rattle.rules.proofs.Lists.{get_d_tab}
 use Rattle.features.specs.Gains.{six_tenths, at_least, gained}

@@ -1,6 +1,7 @@
 -- Smoothed logarithms, the cepstral memory, and the features that are made of it, from `compute_frame_features` of
 -- features.rs. The memory has 8 rows of 22 numbers.
-use Rattle.rules.specs.Common.{ℕ, ◌+◌, ◌-◌, ◌*◌, cond, List, eqb, ltb, set, Float, neg}
+use Rattle.std.specs.Prelude.{◌+◌, ◌-◌, ◌*◌}
+use Rattle.rules.specs.Common.{ℕ, cond, List, eqb, ltb, set, Float, neg}
 use Rattle.rules.specs.Loop.{loop}
 use Rattle.rules.specs.F32.{◌⊕◌, ◌⊖◌, ◌⊗◌, ◌⊘◌, at, f32}
 use Rattle.rules.specs.Place.{Place}

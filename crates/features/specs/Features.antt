@@ -1,6 +1,7 @@
 -- The 42 features of a heard frame, its normalised correlations and the new cepstral memory, from
 -- `compute_frame_features` of features.rs. `logs` are the logarithms of 0.01 + ex, and `lag` is the Rust's pitch index.
-use Rattle.rules.specs.Common.{ℕ, ◌≤◌, List, [], ◌∷◌, ◌++◌, ◌≡◌, drop, Float, binary32}
+use Rattle.std.specs.Prelude.{◌≤◌, ◌∷◌, ◌++◌, ◌≡◌}
+use Rattle.rules.specs.Common.{ℕ, List, [], drop, Float, binary32}
 use Rattle.rules.specs.F32.{◌⊕◌, ◌⊖◌, ◌⊗◌, ◌⊘◌, at, f32}
 use Rattle.rules.specs.Place.{put}
 use Rattle.rules.specs.Tab.{tab}

@@ -1,5 +1,6 @@
 -- The gains, each at least 0.6 times the remembered one, from `process_frame` of denoise.rs.
-use Rattle.rules.specs.Common.{ℕ, List, ◌≡◌, Float}
+use Rattle.std.specs.Prelude.{◌≡◌}
+use Rattle.rules.specs.Common.{ℕ, List, Float}
 use Rattle.rules.specs.F32.{◌⊗◌, at, f32}
 use Rattle.rules.specs.Tab.{tab}
 use Rattle.numbers.specs.Larger.{larger}

@@ -1,5 +1,6 @@
 -- `pitch_filter` and `apply_gain` of features.rs.
-use Rattle.rules.specs.Common.{ℕ, cond, List, ◌≡◌, Float, binary32, lt}
+use Rattle.std.specs.Prelude.{◌≡◌}
+use Rattle.rules.specs.Common.{ℕ, cond, List, Float, binary32, lt}
 use Rattle.rules.specs.F32.{◌⊕◌, ◌⊖◌, ◌⊗◌, ◌⊘◌, at, f32, one}
 use Rattle.rules.specs.Tab.{tab}
 use Rattle.numbers.specs.Larger.{clamped}

@@ -1,5 +1,6 @@
 -- The test for silence, from `compute_frame_features` of features.rs.
-use Rattle.rules.specs.Common.{ℕ, Bool, cond, List, [], ◌∷◌, Float, lt}
+use Rattle.std.specs.Prelude.{◌∷◌}
+use Rattle.rules.specs.Common.{ℕ, Bool, cond, List, [], Float, lt}
 use Rattle.rules.specs.Loop.{loop}
 use Rattle.rules.specs.F32.{◌⊕◌, at, f32}
 use Rattle.features.specs.declared.Sound.{Sound}

@@ -1,6 +1,7 @@
 -- What the constants' rule is for: m * centre - 1 and e * two_high + high lose nothing, whichever f32 above zero x is.
 -- Assumes nothing.
-use Rattle.rules.proofs.Common.{ℕ, zero, suc, ◌+◌, ◌-◌, ◌*◌, ◌/◌, ◌%◌, ◌^◌, ◌≤◌, ◌<◌, Bool, true, false, ◌≡◌, refl, sym}
+use Rattle.std.specs.Prelude.{◌+◌, ◌-◌, ◌*◌, ◌/◌, ◌%◌, ◌^◌, ◌≤◌, ◌<◌, ◌≡◌}
+use Rattle.rules.proofs.Common.{ℕ, zero, suc, Bool, true, false, refl, sym}
 use Rattle.rules.proofs.Common.{ap, subst, ◌∙◌, T, pos}
 use Rattle.rules.proofs.Common.{Float, binary32, binary64, nan, inf, fin, up, down}
 use native.Mathlib.Nat.{le_trans, lt_of_le_of_lt, lt_of_lt_of_le, mul-le-mul, mul_assoc, mul_right_comm, mul-div_cancel}

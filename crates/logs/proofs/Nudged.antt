@@ -1,6 +1,7 @@
 -- The last step by its cases: t stays where it is a NaN, off every midpoint of two f32, or lost nothing; else it moves
 -- by one bit, and stays a number. Assumes nothing.
-use Rattle.rules.proofs.Common.{ℕ, ◌+◌, ◌-◌, ◌*◌, ◌%◌, ◌^◌, ◌≤◌, ◌<◌, Bool, true, false, cond, not, ◌&&◌, ◌≡◌, refl}
+use Rattle.std.specs.Prelude.{◌+◌, ◌-◌, ◌*◌, ◌%◌, ◌^◌, ◌≤◌, ◌<◌, ◌&&◌, ◌≡◌}
+use Rattle.rules.proofs.Common.{ℕ, Bool, true, false, cond, not, refl}
 use Rattle.rules.proofs.Common.{eqb, T, Float, binary64, nan, lt}
 use Rattle.rules.proofs.Common.{is_nan}
 use mathlib.Core.Bool.{beq}

@@ -1,6 +1,7 @@
 -- The constants' rule: tests that antt computes once over the whole table, and what they say of each row.
 -- Assumes nothing.
-use Rattle.rules.proofs.Common.{ℕ, ◌+◌, ◌*◌, ◌/◌, ◌%◌, ◌^◌, ◌<◌, Bool, true, false, ◌&&◌, refl, sym, ap, ◌∙◌, eqb, leb}
+use Rattle.std.specs.Prelude.{◌+◌, ◌*◌, ◌/◌, ◌%◌, ◌^◌, ◌<◌, ◌&&◌}
+use Rattle.rules.proofs.Common.{ℕ, Bool, true, false, refl, sym, ap, ◌∙◌, eqb, leb}
 use Rattle.rules.proofs.Common.{T, Float, nan, inf, fin, up}
 use Rattle.rules.proofs.Common.{down}
 use native.Mathlib.Nat.{div-add-mod', add-zero}

@@ -1,5 +1,6 @@
 -- `log10_of` by what the tests `x > 0.0`, `x == 1.0 / 0.0` and `x == 0.0` tell. Assumes nothing.
-use Rattle.rules.proofs.Common.{zero, suc, Bool, true, false, true≢false, false≢true, ◌≡◌, refl, T, Float, binary64}
+use Rattle.std.specs.Prelude.{◌≡◌}
+use Rattle.rules.proofs.Common.{zero, suc, Bool, true, false, true≢false, false≢true, refl, T, Float, binary64}
 use Rattle.rules.proofs.Common.{nan, inf, fin}
 use lib.Ieee.{to_bits, eq}
 use lib.Ieee.Positive.{above}

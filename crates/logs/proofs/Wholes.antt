@@ -1,5 +1,6 @@
 -- f64 operations on whole numbers of 2^-g: where the result has at most 53 digits, nothing is lost. Assumes nothing.
-use Rattle.rules.proofs.Common.{ℕ, zero, suc, ◌+◌, ◌-◌, ◌*◌, ◌^◌, ◌≤◌, ◌<◌, Bool, true, false, cond, not, ◌&&◌, ◌≡◌}
+use Rattle.std.specs.Prelude.{◌+◌, ◌-◌, ◌*◌, ◌^◌, ◌≤◌, ◌<◌, ◌&&◌, ◌≡◌}
+use Rattle.rules.proofs.Common.{ℕ, zero, suc, Bool, true, false, cond, not}
 use Rattle.rules.proofs.Common.{refl, sym, ap, subst, ◌∙◌, ltb}
 use Rattle.rules.proofs.Common.{pos, Float, binary64, nan, inf, fin, up, down}
 use native.Mathlib.Nat.{lt_irrefl, zero-lt-suc, mul_assoc, mul_comm, mul_right_comm, mul-mul-mul_comm, mul-pos}
@@ -26,7 +27,8 @@ rounds s n g small fine =
     ∙ sym (mul_assoc n (2 ^ (1074 - g)) (2 ^ g)))
 
 -- ---- the product
-product_at_lem : (f : Format) (x y : Float) (s t : Bool) (a b c d : ℕ) → 0 < c → 0 < d → HasValue x s a c → HasValue y t b d
+product_at_lem : (f : Format) (x y : Float) (s t : Bool) (a b c d : ℕ) → 0 < c → 0 < d → HasValue x s a c
+    → HasValue y t b d
     → mul f x y ≡ round f (unlike s t) (a * b) (c * d)
 unfolding mul
 product_at_lem f nan y s t a b c d C D h k = absurd h

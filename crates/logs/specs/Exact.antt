@@ -1,8 +1,8 @@
 -- The rule of the constants, and the steps of `log10` that lose nothing. An f64 is written exactly as z / c with a
 -- whole number z; zero is +0.
-use Rattle.rules.specs.Common.{ℕ, suc, ◌+◌, ◌*◌, ◌/◌, ◌%◌, ◌^◌, ◌≤◌, ◌<◌, true, false, pos, Float, binary32, binary64}
+use Rattle.rules.specs.Common.{ℕ, suc, true, false, pos, Float, binary32, binary64}
 use Rattle.rules.specs.Common.{nan, inf, fin, up, down}
-use Rattle.std.specs.Prelude.{T, ℤ, negsuc, ◌+ℤ◌, ◌-ℤ◌, ◌*ℤ◌}
+use Rattle.std.specs.Prelude.{T, ℤ, negsuc, ◌+ℤ◌, ◌-ℤ◌, ◌*ℤ◌, ◌+◌, ◌*◌, ◌/◌, ◌%◌, ◌^◌, ◌≤◌, ◌<◌}
 use Rattle.std.specs.Float.Ieee.{fits, to_bits}
 use Rattle.std.specs.Float.Ieee.Exact.{HasValue}
 use Rattle.std.specs.Float.Ieee.Positive.{positive}

@@ -2,7 +2,8 @@
 -- and the result rounded to an f32. That this is the nearest f32 to the true logarithm was tried for every f32
 -- (docs/BENCHMARKS.md), and is not proved: there is no logarithm of real numbers here. proofs/Exact.antt shows which
 -- steps lose nothing.
-use Rattle.rules.specs.Common.{ℕ, zero, suc, ◌+◌, ◌-◌, ◌/◌, ◌%◌, ◌^◌, true, false, cond, ◌&&◌, List, ◌≡◌, eqb, pos}
+use Rattle.std.specs.Prelude.{◌+◌, ◌-◌, ◌/◌, ◌%◌, ◌^◌, ◌&&◌, ◌≡◌}
+use Rattle.rules.specs.Common.{ℕ, zero, suc, true, false, cond, List, eqb, pos}
 use Rattle.rules.specs.Common.{Float, binary64, nan, inf, fin}
 use Rattle.rules.specs.Common.{of_int, lt}
 use Rattle.std.specs.Bool.{beq}

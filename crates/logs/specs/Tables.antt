@@ -1,5 +1,6 @@
 -- The constants of `log10`, made by tools/make_tables.sh: by their bit patterns.
-use Rattle.rules.specs.Common.{ℕ, ◌+◌, ◌*◌, List, [], ◌∷◌, map, Float, of_bits}
+use Rattle.std.specs.Prelude.{◌+◌, ◌*◌, ◌∷◌}
+use Rattle.rules.specs.Common.{ℕ, List, [], map, Float, of_bits}
 use Rattle.rules.specs.F32.{at}
 use Rattle.rules.specs.F64.{f64}
 use Rattle.logs.specs.declared.table.Row.{Row}

@@ -3,7 +3,8 @@
 --     narrowings         ties and the ends of the range, f64 pattern to f32 pattern
 --     filtered           three samples of the high-pass filter
 --     picks              which of two numbers `max`, `min` and `clamp` give
-use Rattle.rules.proofs.Common.{ℕ, List, [], ◌∷◌, map, ◌≡◌, refl, Float, binary32, binary64, nan}
+use Rattle.std.specs.Prelude.{◌∷◌, ◌≡◌}
+use Rattle.rules.proofs.Common.{ℕ, List, [], map, refl, Float, binary32, binary64, nan}
 use lib.Ieee.{is_nan, lt, to_bits, of_bits, add, sub, mul}
 use Rattle.rules.specs.F32.{f32}
 use Rattle.rules.specs.Loop.{loop}

@@ -1,9 +1,13 @@
 -- A number up to 200.5, added to 2 ^ 23 and taken from it again, is a whole number next to it; less 1 where that is
 -- above it, it is its whole part. Assumes nothing.
-use Rattle.rules.proofs.Common.{ℕ, ◌+◌, ◌-◌, ◌*◌, ◌/◌, ◌^◌, ◌≤◌, ◌<◌, Bool, true, false, cond, true≢false, List}
-use Rattle.rules.proofs.Common.{◌≡◌, refl, sym, ap, subst, ◌∙◌}
+use Rattle.std.specs.Prelude.{◌+◌, ◌-◌, ◌*◌, ◌/◌, ◌^◌, ◌≤◌, ◌<◌, ◌≡◌}
+use Rattle.rules.proofs.Common.{ℕ, Bool, true, false, cond, true≢false, List}
+use Rattle.rules.proofs.Common.{refl, sym, ap, subst, ◌∙◌}
 use Rattle.rules.proofs.Common.{eqb, T, pos, Float, binary32, nan, inf, fin, is_nan, up, down}
-use Rattle.std.proofs.Common.{ℤ, nat_abs, ⊎_elim, suc-le-suc, lt_of_lt_of_le, le_of_lt, mul-le-mul_right, mul_assoc, suc-mul, div-lt_iff_lt-mul, add-mul, le_antisymm, eq-or-lt_of_le, mul-lt-mul_of_pos_right, mul-pos, le-div_iff_mul-le, mul-one, mul_right_comm, div-mul-le_self, div-one, arith, lit<, lit≤, eqb→eq, w32, to_z, of_z, le-ltb, lt-ltb}
+use Rattle.std.proofs.Common.{ℤ, nat_abs, ⊎_elim, suc-le-suc, lt_of_lt_of_le, le_of_lt, mul-le-mul_right, mul_assoc}
+use Rattle.std.proofs.Common.{suc-mul, div-lt_iff_lt-mul, add-mul, le_antisymm, eq-or-lt_of_le, mul-lt-mul_of_pos_right}
+use Rattle.std.proofs.Common.{mul-pos, le-div_iff_mul-le, mul-one, mul_right_comm, div-mul-le_self, div-one, arith}
+use Rattle.std.proofs.Common.{lit<, lit≤, eqb→eq, w32, to_z, of_z, le-ltb, lt-ltb}
 use native.Mathlib.Nat.{min-eq_left, mod-one}
 use lib.Signed.{non_neg}
 use lib.Count.{count_trailing_zeros}
@@ -58,7 +62,8 @@ less_none k h = floats _ _ (at_each 202 (λ i. same (of_int binary32 (pos i) ⊖
 less_one : (k : ℕ) → k < 202 → of_int binary32 (pos (k + 1)) ⊖ f32 0x3F800000 ≡ of_int binary32 (pos k)
 unfolding units odd sub add neg sum round climb span size of_bits of_fields of_int count_trailing_zeros
 less_one k h =
-    floats _ _ (at_each 202 (λ i. same (of_int binary32 (pos (i + 1)) ⊖ f32 0x3F800000) (of_int binary32 (pos i))) tt k h)
+    floats _ _ (at_each 202 (λ i. same (of_int binary32 (pos (i + 1)) ⊖ f32 0x3F800000) (of_int binary32 (pos i))) tt k
+    h)
 
 -- ---- the sum
 sum_is : (m : ℕ) (e : ℤ) → fin false m e ⊕ f32 0x4B000000 ≡ round binary32 false (m * up e + 8388608 * down e) (down e)
@@ -172,7 +177,8 @@ ends table x = go (is_nan x) (lt x (f32 0x41000000)) (lt (neg (f32 0x41000000)) 
         → cond n (f32 0) (cond p
         (cond q (sign_of x ⊗ near table (cond p (cond q (magnitude x) (f32 0)) (f32 0))) (neg (f32 0x3F800000)))
         (f32 0x3F800000))
-        ≡ cond n (f32 0) (cond p (cond q (sign_of x ⊗ near table (magnitude x)) (neg (f32 0x3F800000))) (f32 0x3F800000))
+        ≡ cond n (f32 0) (cond p (cond q (sign_of x ⊗ near table (magnitude x)) (neg (f32 0x3F800000)))
+        (f32 0x3F800000))
     go true p q = refl
     go false true true = refl
     go false true false = refl
@@ -180,7 +186,8 @@ ends table x = go (is_nan x) (lt x (f32 0x41000000)) (lt (neg (f32 0x41000000)) 
 
 -- the place of what they leave is one of the table's
 pub listed : (x : Float) → place (inside_of x) < 201
-listed x = suc-le-suc (in_table (f32 0x3F000000 ⊕ f32 0x41C80000 ⊗ inside_of x) (half_up (inside_of x) (inside_within x)))
+listed x = suc-le-suc (in_table (f32 0x3F000000 ⊕ f32 0x41C80000 ⊗ inside_of x)
+    (half_up (inside_of x) (inside_within x)))
 
 -- ---- the place as a number
 small_back : (k : ℕ) → k < 201

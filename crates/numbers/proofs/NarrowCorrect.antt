@@ -1,10 +1,14 @@
 -- `narrowed` is correctly rounded: no `f32` is nearer to the `f64` than the one that it gives, and of two that are as
 -- near it gives the one whose last digit is even (`narrowed_correct`). An infinity counts as 2 ^ 128, as IEEE 754 has
 -- it. It is shown of `round`, over the format (`round_correct`). Assumes nothing.
-use Rattle.rules.proofs.Common.{ℕ, zero, suc, ◌+◌, ◌-◌, ◌*◌, ◌/◌, ◌%◌, ◌^◌, ◌≤◌, ◌<◌, Bool, true, false, cond, ◌≡◌}
+use Rattle.std.specs.Prelude.{◌+◌, ◌-◌, ◌*◌, ◌/◌, ◌%◌, ◌^◌, ◌≤◌, ◌<◌, ◌≡◌}
+use Rattle.rules.proofs.Common.{ℕ, zero, suc, Bool, true, false, cond}
 use Rattle.rules.proofs.Common.{refl, sym, ap, subst, ◌∙◌, T}
 use Rattle.rules.proofs.Common.{Float, binary32, nan, inf, fin, up, down}
-use Rattle.std.proofs.Common.{inl, inr, le_trans, le_of_eq, le_refl, lt_of_lt_of_le, lt_of_le_of_lt, le_of_lt, mul-le-mul_right, mul_assoc, mul_comm, add-mul, lt_of_mul-lt-mul_right, eq-or-lt_of_le, mul-lt-mul_of_pos_right, mul-pos, le-div_iff_mul-le, zero-mul, mul_right_comm, not-le_of_lt, mul_left_comm, arith, pow_pos, pow-add, le-ltb}
+use Rattle.std.proofs.Common.{inl, inr, le_trans, le_of_eq, le_refl, lt_of_lt_of_le, lt_of_le_of_lt, le_of_lt}
+use Rattle.std.proofs.Common.{mul-le-mul_right, mul_assoc, mul_comm, add-mul, lt_of_mul-lt-mul_right, eq-or-lt_of_le}
+use Rattle.std.proofs.Common.{mul-lt-mul_of_pos_right, mul-pos, le-div_iff_mul-le, zero-mul, mul_right_comm}
+use Rattle.std.proofs.Common.{not-le_of_lt, mul_left_comm, arith, pow_pos, pow-add, le-ltb}
 use native.Mathlib.Nat.{eq_of_mul-eq-mul_right}
 use lib.Pow.{pow-lt}
 use lib.Ieee.{Format, prec, emax, low, size, odd, units, round, fits}

@@ -1,8 +1,11 @@
 -- Which numbers of units a format holds: a * 2 ^ t, with a of p digits. Of those, none lies within 2 ^ k of q * 2 ^ k,
 -- but just below a power of two.
 -- q is what `round` keeps, and k is how many digits it drops. Assumes nothing.
-use Rattle.rules.proofs.Common.{ℕ, suc, ◌+◌, ◌-◌, ◌*◌, ◌%◌, ◌^◌, ◌≤◌, ◌<◌, ◌≡◌, sym, ap, ◌∙◌}
-use Rattle.std.proofs.Common.{◌⊎◌, inl, inr, le_trans, le_of_eq, le_refl, lt_of_lt_of_le, lt_of_le_of_lt, le_of_lt, add-le-add, mul-le-mul_right, mul_assoc, suc-mul, lt_of_mul-lt-mul_right, eq-or-lt_of_le, pow-suc, sub-add_cancel, not-le_of_lt, arith, pow_mono, pow-add, shl_lt}
+use Rattle.std.specs.Prelude.{◌+◌, ◌-◌, ◌*◌, ◌%◌, ◌^◌, ◌≤◌, ◌<◌, ◌≡◌}
+use Rattle.rules.proofs.Common.{ℕ, suc, sym, ap, ◌∙◌}
+use Rattle.std.proofs.Common.{◌⊎◌, inl, inr, le_trans, le_of_eq, le_refl, lt_of_lt_of_le, lt_of_le_of_lt, le_of_lt}
+use Rattle.std.proofs.Common.{add-le-add, mul-le-mul_right, mul_assoc, suc-mul, lt_of_mul-lt-mul_right, eq-or-lt_of_le}
+use Rattle.std.proofs.Common.{pow-suc, sub-add_cancel, not-le_of_lt, arith, pow_mono, pow-add, shl_lt}
 use native.Mathlib.Nat.{mul-mod_left}
 use Rattle.numbers.proofs.Pattern.{below_or_not}
 

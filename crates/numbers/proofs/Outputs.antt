@@ -1,5 +1,6 @@
 -- The filter's loop, and its promise as its callers read it. Assumes nothing.
-use Rattle.rules.proofs.Common.{ℕ, zero, suc, ◌+◌, ◌≤◌, ◌<◌, List, [], ◌∷◌, ◌++◌, ◌≡◌, refl, ap, ◌∙◌, T, length, drop}
+use Rattle.std.specs.Prelude.{◌+◌, ◌≤◌, ◌<◌, ◌∷◌, ◌++◌, ◌≡◌}
+use Rattle.rules.proofs.Common.{ℕ, zero, suc, List, [], refl, ap, ◌∙◌, T, length, drop}
 use Rattle.rules.proofs.Common.{set, length-append, Float}
 use Rattle.rules.proofs.Common.{binary32, binary64}
 use Rattle.std.proofs.Common.{append-nil, add-one, arith, drop_of_length-le}

@@ -1,9 +1,12 @@
 -- An `f64` rounded to an `f32` where it stands: `shortened_bits` has its pattern. What an `f32` holds is narrowed to
 -- itself (`narrowed_held`). Assumes nothing.
-use Rattle.rules.proofs.Common.{ℕ, zero, suc, ◌+◌, ◌-◌, ◌*◌, ◌/◌, ◌%◌, ◌^◌, ◌≤◌, ◌<◌, Bool, true, false, ◌≡◌, refl, sym}
+use Rattle.std.specs.Prelude.{◌+◌, ◌-◌, ◌*◌, ◌/◌, ◌%◌, ◌^◌, ◌≤◌, ◌<◌, ◌≡◌}
+use Rattle.rules.proofs.Common.{ℕ, zero, suc, Bool, true, false, refl, sym}
 use Rattle.rules.proofs.Common.{ap, subst, ◌∙◌, T, Float}
 use Rattle.rules.proofs.Common.{binary32, binary64, nan, inf, fin, up, down}
-use Rattle.std.proofs.Common.{min, inl, inr, le_of_eq, lt_of_lt_of_le, lt_of_le_of_lt, mul_assoc, lt_of_mul-lt-mul_right, mul-lt-mul_of_pos_right, zero-add, zero-mul, mul_right_comm, arith, pow_pos, pow_mono, pow-add, shl_lt}
+use Rattle.std.proofs.Common.{min, inl, inr, le_of_eq, lt_of_lt_of_le, lt_of_le_of_lt, mul_assoc}
+use Rattle.std.proofs.Common.{lt_of_mul-lt-mul_right, mul-lt-mul_of_pos_right, zero-add, zero-mul, mul_right_comm}
+use Rattle.std.proofs.Common.{arith, pow_pos, pow_mono, pow-add, shl_lt}
 use lib.Ieee.{Format, low, round, fits, of_bits, to_bits}
 use lib.Ieee.Fits.{fits_widens, round-fits, nan-fits, inf-fits}
 use lib.Ieee.Bits.{of_bits-to_bits, of_bits-fits}

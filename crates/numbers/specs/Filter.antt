@@ -1,5 +1,6 @@
 -- `Biquad::filter` of util.rs, in f64. Every f32 is an f64, so `x as f64` is x itself. `x as f32` is `narrowed`.
-use Rattle.rules.specs.Common.{ℕ, List, [], ◌∷◌, ◌++◌, length, Float}
+use Rattle.std.specs.Prelude.{◌∷◌, ◌++◌}
+use Rattle.rules.specs.Common.{ℕ, List, [], length, Float}
 use Rattle.rules.specs.F32.{f32, at}
 use Rattle.rules.specs.F64.{◌+₆₄◌, ◌-₆₄◌, ◌*₆₄◌}
 use Rattle.rules.specs.Loop.{loop}

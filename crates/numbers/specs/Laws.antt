@@ -1,9 +1,9 @@
 -- What is claimed of the numbers. The proofs are in proofs/Larger, proofs/NarrowCorrect and proofs/RootCorrect.
-use Rattle.rules.specs.Common.{ℕ, zero, suc, ◌+◌, ◌-◌, ◌*◌, ◌%◌, ◌^◌, ◌≤◌, ◌<◌, Bool, true, false, cond, ◌≡◌, Float}
+use Rattle.rules.specs.Common.{ℕ, zero, suc, Bool, true, false, cond, Float}
 use Rattle.rules.specs.Common.{binary32, nan, inf, fin, lt}
 use Rattle.rules.specs.Common.{is_nan, up, down, round}
 use Rattle.std.specs.Bool.{beq}
-use Rattle.std.specs.Prelude.{T, ℤ, ◌≢◌}
+use Rattle.std.specs.Prelude.{T, ℤ, ◌≢◌, ◌+◌, ◌-◌, ◌*◌, ◌%◌, ◌^◌, ◌≤◌, ◌<◌, ◌≡◌}
 use Rattle.std.specs.Float.{Format}
 use Rattle.std.specs.Float.Ieee.{prec, low, fits, eq}
 use Rattle.std.specs.Float.Ieee.Exact.{HasValue}

@@ -1,5 +1,6 @@
 -- For the contracts of private functions.
-use Rattle.rules.specs.Common.{ℕ, ◌+◌, ◌*◌, ◌≤◌, Bool, true, false, cond, List, ◌≡◌, pos, Float, binary32, binary64}
+use Rattle.std.specs.Prelude.{◌+◌, ◌*◌, ◌≤◌, ◌≡◌}
+use Rattle.rules.specs.Common.{ℕ, Bool, true, false, cond, List, pos, Float, binary32, binary64}
 use Rattle.rules.specs.Common.{nan, inf, fin, of_int, lt, neg}
 use Rattle.rules.specs.Common.{is_nan, up, down, of_bits}
 use Rattle.std.specs.Float.{Format}
@@ -52,4 +53,5 @@ with_sign f s b = cond s (top f) 0 + b
 -- With either sign, the f32 with the magnitude r is the f64 with the magnitude a, narrowed; and r is not that of a NaN.
 pub record Narrows (a r : ℕ) : Type 0 where
   pub small : r ≤ ones binary32 * hid binary32
-  pub value : (s : Bool) → of_bits binary32 (with_sign binary32 s r) ≡ narrowed (of_bits binary64 (with_sign binary64 s a))
+  pub value : (s : Bool) → of_bits binary32 (with_sign binary32 s r)
+      ≡ narrowed (of_bits binary64 (with_sign binary64 s a))

@@ -1,6 +1,7 @@
 -- `good_sample` at its ends and beyond, computed from the definition alone. `f32` takes the bit pattern of a number.
 -- Assumes nothing.
-use Rattle.rules.proofs.Common.{true, false, ◌≡◌, refl, nan}
+use Rattle.std.specs.Prelude.{◌≡◌}
+use Rattle.rules.proofs.Common.{true, false, refl, nan}
 use lib.Ieee.{le, of_bits}
 use Rattle.rules.specs.F32.{f32}
 use Rattle.samples.specs.Samples.{good_sample}

@@ -1,5 +1,6 @@
 -- The loop over the samples: they are good exactly if those that it has passed are and the rest is. Assumes nothing.
-use Rattle.rules.proofs.Common.{ℕ, suc, ◌+◌, ◌≤◌, ◌<◌, Bool, true, false, ◌&&◌, List, ◌≡◌, refl, sym, ap, ◌∙◌}
+use Rattle.std.specs.Prelude.{◌+◌, ◌≤◌, ◌<◌, ◌&&◌, ◌≡◌}
+use Rattle.rules.proofs.Common.{ℕ, suc, Bool, true, false, List, refl, sym, ap, ◌∙◌}
 use Rattle.rules.proofs.Common.{length, drop, Float, nan}
 use native.Mathlib.Numerals.{add-one}
 use lib.ListN.{drop_of_length-le}
@@ -27,4 +28,5 @@ one_more_lem xs so_far i h e =
 pub all_passed : (xs : List Float) (so_far : Bool) (i : ℕ) → length xs ≤ i → good xs ≡ so_far && good (drop i xs)
     → so_far ≡ good xs
 unfolding good
-all_passed xs so_far i h e = sym (e ∙ ap (λ rest. so_far && good rest) (drop_of_length-le xs {i = i} h) ∙ and_true so_far)
+all_passed xs so_far i h e = sym (e ∙ ap (λ rest. so_far && good rest) (drop_of_length-le xs {i = i} h)
+    ∙ and_true so_far)

@@ -1,5 +1,6 @@
 -- Which samples a call accepts (request 05).
-use Rattle.rules.specs.Common.{Bool, true, ◌&&◌, List, [], ◌∷◌, Float, le}
+use Rattle.std.specs.Prelude.{◌&&◌, ◌∷◌}
+use Rattle.rules.specs.Common.{Bool, true, List, [], Float, le}
 use Rattle.rules.specs.F32.{f32}
 
 -- A good sample is from −32768 to 32767, both included. NaN is not good.

@@ -1,5 +1,6 @@
 -- `bands::add_rows` meets its contract. Assumes nothing.
-use Rattle.rules.proofs.Common.{◌-◌, ◌≤◌, ◌≡◌, length}
+use Rattle.std.specs.Prelude.{◌-◌, ◌≤◌, ◌≡◌}
+use Rattle.rules.proofs.Common.{length}
 use Rattle.bands.specs.Private.{sums_after}
 use Rattle.bands.proofs.add_rows.Given as goal
 

@@ -1,5 +1,6 @@
 -- `bands::band_0` meets its contract. Assumes nothing.
-use Rattle.rules.proofs.Common.{ℕ, ◌≡◌, ◌∙◌}
+use Rattle.std.specs.Prelude.{◌≡◌}
+use Rattle.rules.proofs.Common.{ℕ, ◌∙◌}
 use native.Mathlib.Omega.{arith}
 use Rattle.rules.proofs.Loops.{turns}
 use Rattle.bands.specs.Bands.{BandFits}

@@ -1,5 +1,5 @@
 -- `features::apply_gains` meets its contract. Assumes nothing.
-use Rattle.rules.proofs.Common.{◌-◌, ◌≤◌}
+use Rattle.std.specs.Prelude.{◌-◌, ◌≤◌}
 use Rattle.rules.specs.F32.{◌⊗◌, at}
 use Rattle.rules.proofs.Lists.{Filling}
 use Rattle.rules.specs.Spectrum.{bin_of}

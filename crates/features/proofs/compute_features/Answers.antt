@@ -1,5 +1,6 @@
 -- `features::compute_features` meets its contract: a refusal by the test, else what its parts ensure. Assumes nothing.
-use Rattle.rules.proofs.Common.{ℕ, List, ◌≡◌, refl, Float}
+use Rattle.std.specs.Prelude.{◌≡◌}
+use Rattle.rules.proofs.Common.{ℕ, List, refl, Float}
 use native.Mathlib.Omega.{arith}
 use borrow.Author.Rules.{rules}
 use Rattle.rules.specs.Leaf.{done, refused, ◌leaving◌}
@@ -8,7 +9,8 @@ use Rattle.features.proofs.compute_features.Goals as goal
 
 together : {r : ℕ} {out exp corr new ceps : List Float} (lag : Float) (logs mem : List Float) (index : ℕ)
     → exp ≡ corr → out ≡ features_of exp lag logs mem index → new ≡ ceps
-    → (r leaving out leaving exp leaving new) ≡ (r leaving features_of corr lag logs mem index leaving corr leaving ceps)
+    → (r leaving out leaving exp leaving new) ≡ (r leaving features_of corr lag logs mem index leaving corr leaving
+    ceps)
 together lag logs mem index e o n = rw (o, n, e)
 
 pub returns-then-features-ne42 : goal.returns-then-features-ne42

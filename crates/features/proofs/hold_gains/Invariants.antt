@@ -1,5 +1,5 @@
 -- `features::hold_gains` meets its contract. Assumes nothing.
-use Rattle.rules.proofs.Common.{◌-◌, ◌≤◌}
+use Rattle.std.specs.Prelude.{◌-◌, ◌≤◌}
 use Rattle.rules.specs.F32.{at}
 use Rattle.rules.proofs.Lists.{Filling}
 use Rattle.features.specs.Gains.{at_least}

@@ -1,5 +1,5 @@
 -- `features::listen` meets its contract: a refusal by the test, else what the energy sum makes of it. Assumes nothing.
-use Rattle.rules.proofs.Common.{◌-◌, ◌≤◌, ◌≡◌}
+use Rattle.std.specs.Prelude.{◌-◌, ◌≤◌, ◌≡◌}
 use Rattle.rules.specs.Loop.{loop}
 use Rattle.features.specs.Silence.{energy_step}
 use Rattle.features.proofs.listen.Given as goal

@@ -1,5 +1,6 @@
 -- `logs::log10` meets its contract: each way through it is a case of proofs/Special. Assumes nothing.
-use Rattle.rules.proofs.Common.{true, not, ◌≡◌, sym, ap, subst, ◌∙◌, T, binary32, binary64, is_nan, Float, lt}
+use Rattle.std.specs.Prelude.{◌≡◌}
+use Rattle.rules.proofs.Common.{true, not, sym, ap, subst, ◌∙◌, T, binary32, binary64, is_nan, Float, lt}
 use lib.Ieee.{fits, div, neg, of_bits}
 use lib.Ieee.Fits.{and_i, fits_widens}
 use lib.Ieee.Positive.{above}

@@ -1,5 +1,6 @@
 -- `logs::log_of_bits` meets its contract. Assumes nothing.
-use Rattle.rules.proofs.Common.{ℕ, ◌^◌, ◌≤◌, ap, ◌∙◌, T, pos, Float, binary64}
+use Rattle.std.specs.Prelude.{◌^◌, ◌≤◌}
+use Rattle.rules.proofs.Common.{ℕ, ap, ◌∙◌, T, pos, Float, binary64}
 use native.Mathlib.Omega.{arith}
 use lib.Dec.{le→leb}
 use lib.Ieee.{in_float}
@@ -25,6 +26,7 @@ pub returns : goal.returns
 unfolding log_of_bits off_centre high_of low_of
 returns c =
     let bits = c.args.bits in
-    let by : Row → Float = λ w. summed (exponent_of bits *₆₄ two_high +₆₄ w.high) (exponent_of bits *₆₄ two_low +₆₄ w.low)
+    let by : Row → Float = λ w. summed (exponent_of bits *₆₄ two_high +₆₄ w.high)
+    (exponent_of bits *₆₄ two_low +₆₄ w.low)
     (mantissa_of bits *₆₄ w.centre -₆₄ f64 0x3FF0000000000000) in
     c.sum_of.ensures ∙ ap by c.row_at-row.ensures

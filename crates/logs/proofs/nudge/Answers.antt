@@ -1,5 +1,6 @@
 -- `logs::nudge` meets its contract: each way through it is a case of proofs/Nudged. Assumes nothing.
-use Rattle.rules.proofs.Common.{true, false, ◌≡◌, sym, subst, T, Float, binary64}
+use Rattle.std.specs.Prelude.{◌≡◌}
+use Rattle.rules.proofs.Common.{true, false, sym, subst, T, Float, binary64}
 use lib.Ieee.{fits}
 use lib.Ieee.Compare.{differs_from_itself}
 use Rattle.numbers.proofs.NoNan.{real_of}
@@ -16,7 +17,8 @@ abbrev lost : Float → Float → Float → Float
 lost t s w = w -₆₄ (t -₆₄ s)
 
 pub returns-then-t : goal.returns-then-t
-returns-then-t c = sym (broken c.args.t (lost c.args.t c.args.s c.args.w) (differs_from_itself c.args.t (subst T (sym c.if-t.true) tt)))
+returns-then-t c = sym (broken c.args.t (lost c.args.t c.args.s c.args.w)
+    (differs_from_itself c.args.t (subst T (sym c.if-t.true) tt)))
 
 pub float_to_bits-bits : goal.float_to_bits-bits
 float_to_bits-bits c = real_of c.args.t c.if-t.false
@@ -38,11 +40,13 @@ float_from_bits-result c = (beside c.args.t (held c.args.t c.well_formed.0.1) (r
     c.if-bits-ne268435456.false).up
 
 pub returns-then-z-t : goal.returns-then-z-t
-returns-then-z-t c = sym (moved c.args.t (lost c.args.t c.args.s c.args.w) true c.if-bits-ne268435456.false c.if-z.false c.if-z-t.true)
+returns-then-z-t c = sym (moved c.args.t (lost c.args.t c.args.s c.args.w) true c.if-bits-ne268435456.false c.if-z.false
+    c.if-z-t.true)
 
 pub float_from_bits-result-2 : goal.float_from_bits-result-2
 float_from_bits-result-2 c = (beside c.args.t (held c.args.t c.well_formed.0.1) (real_of c.args.t c.if-t.false)
     c.if-bits-ne268435456.false).down
 
 pub returns : goal.returns
-returns c = sym (moved c.args.t (lost c.args.t c.args.s c.args.w) false c.if-bits-ne268435456.false c.if-z.false c.if-z-t.false)
+returns c = sym (moved c.args.t (lost c.args.t c.args.s c.args.w) false c.if-bits-ne268435456.false c.if-z.false
+    c.if-z-t.false)

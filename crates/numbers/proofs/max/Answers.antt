@@ -1,6 +1,7 @@
 -- `numbers::max` meets its contract: each arm returns what `larger` picks under the tests that led there.
 -- Assumes nothing.
-use Rattle.rules.proofs.Common.{Bool, true, false, ◌||◌, ◌≡◌, sym, ◌∙◌, Float, lt, is_nan}
+use Rattle.std.specs.Prelude.{◌||◌, ◌≡◌}
+use Rattle.rules.proofs.Common.{Bool, true, false, sym, ◌∙◌, Float, lt, is_nan}
 use Rattle.rules.specs.F32.{f32}
 use Rattle.numbers.specs.Larger.{yields}
 use Rattle.numbers.proofs.NoNan.{nan_test}
@@ -16,7 +17,11 @@ pub returns-then-a-b : goal.returns-then-a-b
 returns-then-a-b c = simp ((plain c.args.a c.args.b _ c.off_zero.ensures c.if-off_zero.true).0, c.if-a-b.true)
 
 pub returns-else-a-b : goal.returns-else-a-b
-returns-else-a-b c = simp ((plain c.args.a c.args.b _ c.off_zero.ensures c.if-off_zero.true).0, (plain c.args.a c.args.b _ c.off_zero.ensures c.if-off_zero.true).1, c.if-a-b.false)
+returns-else-a-b c = simp (
+  (plain c.args.a c.args.b _ c.off_zero.ensures c.if-off_zero.true).0,
+  (plain c.args.a c.args.b _ c.off_zero.ensures c.if-off_zero.true).1,
+  c.if-a-b.false,
+)
 
 pub returns-then-a : goal.returns-then-a
 returns-then-a c = simp (← nan_test, c.if-a.true)

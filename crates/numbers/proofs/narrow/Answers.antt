@@ -1,5 +1,7 @@
 -- `numbers::narrow` meets its contract. Assumes nothing.
-use Rattle.rules.proofs.Common.{ℕ, ◌*◌, ◌%◌, ◌^◌, ◌<◌, ◌≤◌, Bool, true, false, not, ◌&&◌, ◌≡◌, sym, ap, subst, ◌∙◌, T, Float}
+use Rattle.std.specs.Prelude.{◌*◌, ◌%◌, ◌^◌, ◌<◌, ◌≤◌, ◌&&◌, ◌≡◌}
+use Rattle.rules.proofs.Common.{ℕ, Bool, true, false, not, sym, ap, subst, ◌∙◌, T}
+use Rattle.rules.proofs.Common.{Float}
 use Rattle.rules.proofs.Common.{binary32, binary64}
 use Rattle.std.proofs.Common.{arith, pow_pos}
 use lib.Ieee.{fits, div, is_nan, nan_bits, of_bits, to_bits}

@@ -18,10 +18,12 @@ pub rounded-r-requires : goal.rounded-r-requires
 rounded-r-requires c = search rules
 
 pub returns-then-r-lt-INFINITY : goal.returns-then-r-lt-INFINITY
-returns-then-r-lt-INFINITY c = subst (Narrows c.args.a) (min-eq_left (le_of_lt c.if-r-lt-INFINITY.true)) (at_most c.args.a _ c.if-a-ge-NORMAL.true c.requires c.rounded-r.ensures)
+returns-then-r-lt-INFINITY c = subst (Narrows c.args.a) (min-eq_left (le_of_lt c.if-r-lt-INFINITY.true))
+    (at_most c.args.a _ c.if-a-ge-NORMAL.true c.requires c.rounded-r.ensures)
 
 pub returns-then-a-ge-NORMAL : goal.returns-then-a-ge-NORMAL
-returns-then-a-ge-NORMAL c = subst (Narrows c.args.a) (min-eq_right c.if-r-lt-INFINITY.false) (at_most c.args.a _ c.if-a-ge-NORMAL.true c.requires c.rounded-r.ensures)
+returns-then-a-ge-NORMAL c = subst (Narrows c.args.a) (min-eq_right c.if-r-lt-INFINITY.false)
+    (at_most c.args.a _ c.if-a-ge-NORMAL.true c.requires c.rounded-r.ensures)
 
 pub overflow_add-a : goal.overflow_add-a
 overflow_add-a c = search rules

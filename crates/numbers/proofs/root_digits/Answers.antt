@@ -1,6 +1,7 @@
 -- `numbers::root_digits` meets its contract: what passes the tests is nearest to the root, and there is only one such
 -- number. Assumes nothing.
-use Rattle.rules.proofs.Common.{ℕ, ◌+◌, ◌-◌, ◌*◌, ◌^◌, ◌<◌, ◌≡◌, ap, ◌∙◌}
+use Rattle.std.specs.Prelude.{◌+◌, ◌-◌, ◌*◌, ◌^◌, ◌<◌, ◌≡◌}
+use Rattle.rules.proofs.Common.{ℕ, ap, ◌∙◌}
 use Rattle.std.proofs.Common.{le_of_lt, arith, lit<}
 use lib.Ieee.Nearest.{closest}
 use Rattle.numbers.specs.Root.{twice_root}

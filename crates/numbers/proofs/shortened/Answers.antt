@@ -1,5 +1,6 @@
 -- `numbers::shortened` meets its contract. Assumes nothing.
-use Rattle.rules.proofs.Common.{ℕ, ◌*◌, ◌%◌, ◌^◌, ◌<◌, ◌≤◌, true, not, ◌≡◌, sym, ap, subst, ◌∙◌, T, Float, binary64}
+use Rattle.std.specs.Prelude.{◌*◌, ◌%◌, ◌^◌, ◌<◌, ◌≤◌, ◌≡◌}
+use Rattle.rules.proofs.Common.{ℕ, true, not, sym, ap, subst, ◌∙◌, T, Float, binary64}
 use Rattle.std.proofs.Common.{arith, pow_pos}
 use lib.Ieee.{fits, div, nan_bits, of_bits, to_bits}
 use lib.Ieee.Compare.{differs_from_itself}

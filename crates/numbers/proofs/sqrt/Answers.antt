@@ -1,7 +1,9 @@
 -- `numbers::sqrt` meets its contract. Above zero the bits go by `proofs/Extraction.antt`, and the rest by
 -- `proofs/Special.antt`. Assumes nothing.
+use Rattle.std.specs.Prelude.{◌+◌, ◌-◌, ◌*◌, ◌/◌, ◌^◌, ◌≤◌, ◌≡◌}
 use Rattle.std.proofs.Common.{lt_of_lt_of_le, arith, lit≤, rules}
-use Rattle.rules.proofs.Common.{ℕ, ◌+◌, ◌-◌, ◌*◌, ◌/◌, ◌^◌, ◌≤◌, true, not, ◌≡◌, sym, ap, subst, ◌∙◌, T, binary32, binary64}
+use Rattle.rules.proofs.Common.{ℕ, true, not, sym, ap, subst, ◌∙◌, T, binary32}
+use Rattle.rules.proofs.Common.{binary64}
 use Rattle.rules.proofs.Common.{Float, lt, is_nan}
 use lib.Ieee.{fits, div, of_bits, to_bits}
 use lib.Ieee.Fits.{and_i, fits_widens}
@@ -61,18 +63,31 @@ pub overflow_mul-result : goal.overflow_mul-result
 overflow_mul-result c = omega (arith, (found c.args.x c.well_formed.0.1 c.if-x.true c.if-field-eq2047.false).field_le)
 
 pub overflow_add-result : goal.overflow_add-result
-overflow_add-result c = omega (arith, small c.args.x _ (found c.args.x c.well_formed.0.1 c.if-x.true c.if-field-eq2047.false) c.root_digits-root.ensures)
+overflow_add-result c = omega (
+  arith,
+  small c.args.x _ (found c.args.x c.well_formed.0.1 c.if-x.true
+      c.if-field-eq2047.false) c.root_digits-root.ensures,
+)
 
 pub overflow_cast-result : goal.overflow_cast-result
-overflow_cast-result c = omega (arith, small c.args.x _ (found c.args.x c.well_formed.0.1 c.if-x.true c.if-field-eq2047.false) c.root_digits-root.ensures)
+overflow_cast-result c = omega (
+  arith,
+  small c.args.x _ (found c.args.x c.well_formed.0.1 c.if-x.true
+      c.if-field-eq2047.false) c.root_digits-root.ensures,
+)
 
 pub float_from_bits-result : goal.float_from_bits-result
-float_from_bits-result c = real_pattern binary32 _ (omega (arith, small c.args.x _ (found c.args.x c.well_formed.0.1 c.if-x.true c.if-field-eq2047.false) c.root_digits-root.ensures))
+float_from_bits-result c = real_pattern binary32 _ (omega (
+  arith,
+  small c.args.x _ (found c.args.x c.well_formed.0.1 c.if-x.true c.if-field-eq2047.false)
+      c.root_digits-root.ensures,
+))
 
 pub returns-then-x : goal.returns-then-x
 returns-then-x c =
     let b = to_bits binary64 c.args.x in
-    ap (λ (y : ℕ). of_bits binary32 ((b / 2 ^ 52 - 771) / 2 * 2 ^ 23 + y)) c.root_digits-root.ensures ∙ (found c.args.x c.well_formed.0.1 c.if-x.true c.if-field-eq2047.false).value
+    ap (λ (y : ℕ). of_bits binary32 ((b / 2 ^ 52 - 771) / 2 * 2 ^ 23 + y)) c.root_digits-root.ensures
+    ∙ (found c.args.x c.well_formed.0.1 c.if-x.true c.if-field-eq2047.false).value
 
 pub returns-then-x-2 : goal.returns-then-x-2
 unfolding of_bits

@@ -31,4 +31,9 @@ entry-requires c =
 pub returns : goal.returns
 returns c =
     let x = c.args.x in
-    rw (c.follow.ensures, c.entry.ensures, number_is _ _ (listed x) (found c.args.x _ _ c.inside.ensures c.place_of-i.ensures)) (ends _ x)
+    rw (
+      c.follow.ensures,
+      c.entry.ensures,
+      number_is _ _ (listed x)
+          (found c.args.x _ _ c.inside.ensures c.place_of-i.ensures),
+    ) (ends _ x)

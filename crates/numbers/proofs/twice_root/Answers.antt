@@ -1,6 +1,7 @@
 -- `numbers::twice_root` meets its contract. The loop's invariant: the root is at least r and below r + gap. Where the
 -- gap is 1, r is the whole root. Assumes nothing.
-use Rattle.rules.proofs.Common.{ℕ, suc, ◌+◌, ◌-◌, ◌*◌, ◌/◌, ◌^◌, ◌≤◌, ◌<◌, Bool, cond, ◌≡◌, sym, ap, subst, ◌∙◌}
+use Rattle.std.specs.Prelude.{◌+◌, ◌-◌, ◌*◌, ◌/◌, ◌^◌, ◌≤◌, ◌<◌, ◌≡◌}
+use Rattle.rules.proofs.Common.{ℕ, suc, Bool, cond, sym, ap, subst, ◌∙◌}
 use Rattle.std.proofs.Common.{zero-le, lt_of_lt_of_le, lt_of_le_of_lt, add-zero, arith, lit<, lit≤, eq-eqb, ne_eqb}
 use Rattle.numbers.proofs.Squares.{IsRoot, square_le, square_fits, square_lt_back, twice_at}
 use Rattle.numbers.proofs.twice_root.Invariants.{Spans}
@@ -62,7 +63,10 @@ loop-gap-preserved c =
     ]
 
 pub overflow_mul-r : goal.overflow_mul-r
-overflow_mul-r c = record { fits = square_fits c.loop-gap.r (omega (arith, small c.args.n c.loop-gap.r c.loop-gap.invariant.low c.requires)) }
+overflow_mul-r c = record {
+  fits = square_fits c.loop-gap.r
+      (omega (arith, small c.args.n c.loop-gap.r c.loop-gap.invariant.low c.requires));
+}
 
 pub overflow_mul-result : goal.overflow_mul-result
 overflow_mul-result c = omega (arith, small c.args.n c.loop-gap.r c.loop-gap.invariant.low c.requires)
@@ -77,11 +81,13 @@ pub returns-then-r-n : goal.returns-then-r-n
 returns-then-r-n c =
     let n = c.args.n in
     let r = c.loop-gap.r in
-    sym (twice_at n r (found n r c.loop-gap.gap c.loop-gap.invariant c.loop-gap-test.false) ∙ ap (λ (b : Bool). 2 * r + cond b 0 1) (eq-eqb (r * r) n c.if-r-n.true)
+    sym (twice_at n r (found n r c.loop-gap.gap c.loop-gap.invariant c.loop-gap-test.false)
+    ∙ ap (λ (b : Bool). 2 * r + cond b 0 1) (eq-eqb (r * r) n c.if-r-n.true)
     ∙ add-zero (2 * r))
 
 pub returns-else-r-n : goal.returns-else-r-n
 returns-else-r-n c =
     let n = c.args.n in
     let r = c.loop-gap.r in
-    sym (twice_at n r (found n r c.loop-gap.gap c.loop-gap.invariant c.loop-gap-test.false) ∙ ap (λ (b : Bool). 2 * r + cond b 0 1) (ne_eqb (r * r) n c.if-r-n.false))
+    sym (twice_at n r (found n r c.loop-gap.gap c.loop-gap.invariant c.loop-gap-test.false)
+    ∙ ap (λ (b : Bool). 2 * r + cond b 0 1) (ne_eqb (r * r) n c.if-r-n.false))

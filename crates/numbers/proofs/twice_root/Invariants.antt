@@ -1,6 +1,7 @@
 -- `numbers::twice_root` meets its contract. The loop's invariant: the root is at least r and below r + gap. Where the
 -- gap is 1, r is the whole root. Assumes nothing.
-use Rattle.rules.proofs.Common.{ℕ, ◌+◌, ◌*◌, ◌^◌, ◌≤◌, ◌<◌}
+use Rattle.std.specs.Prelude.{◌+◌, ◌*◌, ◌^◌, ◌≤◌, ◌<◌}
+use Rattle.rules.proofs.Common.{ℕ}
 use Rattle.numbers.proofs.twice_root.Given as goal
 
 -- the root of n is at least `from`, and below from + gap

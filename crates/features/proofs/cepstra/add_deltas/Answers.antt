@@ -1,5 +1,6 @@
 -- `features::cepstra::add_deltas` meets its contract: what its parts ensure, put together. Assumes nothing.
-use Rattle.rules.proofs.Common.{ℕ, List, ◌≡◌, length, set, length-set, Float}
+use Rattle.std.specs.Prelude.{◌≡◌}
+use Rattle.rules.proofs.Common.{ℕ, List, length, set, length-set, Float}
 use native.Mathlib.Omega.{arith}
 use Rattle.rules.specs.F32.{part}
 use Rattle.rules.specs.Place.{put}

@@ -1,5 +1,6 @@
 -- `features::cepstra::cepstrum_of` meets its contract: what its parts ensure, put together. Assumes nothing.
-use Rattle.rules.proofs.Common.{List, ◌≡◌, length-set, Float}
+use Rattle.std.specs.Prelude.{◌≡◌}
+use Rattle.rules.proofs.Common.{List, length-set, Float}
 use native.Mathlib.Omega.{arith}
 use borrow.Author.Rules.{rules}
 use Rattle.rules.specs.F32.{f32}

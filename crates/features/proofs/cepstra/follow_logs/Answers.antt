@@ -28,8 +28,12 @@ max-follow-requires c = search fills
 pub loop-i-preserved : goal.loop-i-preserved
 unfolding floor_step
 loop-i-preserved c =
-    let l = c.loop-i in
-    (omega arith, more _ _ _ l.invariant.1 (cc), filling_more _ _ _ l.invariant.2 (omega arith) (rw (← l.invariant.1) (cc)))
+    let l = c.loop-i in (
+      omega arith,
+      more _ _ _ l.invariant.1 (cc),
+      filling_more _ _ _ l.invariant.2 (omega arith)
+          (rw (← l.invariant.1) (cc)),
+    )
 
 pub returns : goal.returns
 unfolding follow_logs

@@ -1,5 +1,5 @@
 -- `features::cepstra::nearest_row` meets its contract. Assumes nothing.
-use Rattle.rules.proofs.Common.{◌-◌, ◌≤◌, ◌≡◌}
+use Rattle.std.specs.Prelude.{◌-◌, ◌≤◌, ◌≡◌}
 use Rattle.rules.specs.Loop.{loop}
 use Rattle.features.specs.Cepstra.{nearest_step}
 use Rattle.features.proofs.cepstra.nearest_row.Given as goal

@@ -1,5 +1,6 @@
 -- `features::cepstra::remember` meets its contract. Assumes nothing.
-use Rattle.rules.proofs.Common.{ℕ, ◌+◌, ◌-◌, ◌*◌, List, ◌++◌, ◌≡◌, take, drop, length-take, length-drop, Float}
+use Rattle.std.specs.Prelude.{◌+◌, ◌-◌, ◌*◌, ◌++◌, ◌≡◌}
+use Rattle.rules.proofs.Common.{ℕ, List, take, drop, length-take, length-drop, Float}
 use native.Mathlib.Omega.{arith}
 use Rattle.rules.specs.Place.{put}
 use Rattle.rules.proofs.Refusals.{left}

@@ -1,5 +1,5 @@
 -- `features::cepstra::row_distance` meets its contract. Assumes nothing.
-use Rattle.rules.proofs.Common.{◌-◌, ◌≤◌, ◌≡◌}
+use Rattle.std.specs.Prelude.{◌-◌, ◌≤◌, ◌≡◌}
 use Rattle.rules.specs.Loop.{loop}
 use Rattle.features.specs.Cepstra.{dist_step}
 use Rattle.features.proofs.cepstra.row_distance.Given as goal

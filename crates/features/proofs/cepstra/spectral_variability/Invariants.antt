@@ -1,5 +1,5 @@
 -- `features::cepstra::spectral_variability` meets its contract. Assumes nothing.
-use Rattle.rules.proofs.Common.{◌-◌, ◌≤◌, ◌≡◌}
+use Rattle.std.specs.Prelude.{◌-◌, ◌≤◌, ◌≡◌}
 use Rattle.rules.specs.Loop.{loop}
 use Rattle.features.specs.Cepstra.{variability_step}
 use Rattle.features.proofs.cepstra.spectral_variability.Given as goal

@@ -1,5 +1,6 @@
 -- `features::heard::fill_features` meets its contract: what its parts ensure, put together. Assumes nothing.
-use Rattle.rules.proofs.Common.{ℕ, List, ◌≡◌, ◌∙◌, length, Float}
+use Rattle.std.specs.Prelude.{◌≡◌}
+use Rattle.rules.proofs.Common.{ℕ, List, ◌∙◌, length, Float}
 use Rattle.rules.specs.F32.{part}
 use Rattle.rules.specs.Place.{put}
 use Rattle.features.specs.Cepstra.{row, cepstrum}

@@ -1,5 +1,6 @@
 -- `features::heard::pitch_features` meets its contract. Assumes nothing.
-use Rattle.rules.proofs.Common.{◌+◌, List, [], ◌∷◌, ◌++◌, ◌≡◌, refl, ap, ◌∙◌, length, length-set, Float}
+use Rattle.std.specs.Prelude.{◌+◌, ◌∷◌, ◌++◌, ◌≡◌}
+use Rattle.rules.proofs.Common.{List, [], refl, ap, ◌∙◌, length, length-set, Float}
 use mathlib.Core.List.{append-nil}
 use native.Mathlib.Omega.{arith}
 use borrow.Author.Rules.{rules}

@@ -1,5 +1,6 @@
 -- `features::pitch::filter` meets its contract: what its parts ensure, put together. Assumes nothing.
-use Rattle.rules.proofs.Common.{List, ◌≡◌, ◌∙◌, Float}
+use Rattle.std.specs.Prelude.{◌≡◌}
+use Rattle.rules.proofs.Common.{List, ◌∙◌, Float}
 use Rattle.rules.proofs.Refusals.{left}
 use Rattle.bands.specs.Bands.{band_gain}
 use Rattle.features.specs.Pitch.{pitch_gains, pitch_added, restored, pitch_filtered}

@@ -6,7 +6,8 @@ use Rattle.features.specs.Pitch.{band_pitch_gain}
 use Rattle.features.proofs.pitch.gains_of.Given as goal
 
 abbrev pub invariant-loop-i : goal.invariant-loop-i
-invariant-loop-i l = (l.i ≤ 22) × Filling (λ k. band_pitch_gain (at l.gains k) (at l.exp k) (at l.ex k) (at l.ep k)) l.initial.r l.i l.r
+invariant-loop-i l = (l.i ≤ 22) × Filling (λ k. band_pitch_gain (at l.gains k) (at l.exp k) (at l.ex k) (at l.ep k))
+    l.initial.r l.i l.r
 
 abbrev pub decreases-loop-i : goal.decreases-loop-i
 decreases-loop-i l = 22 - l.i

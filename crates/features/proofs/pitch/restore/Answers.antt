@@ -1,5 +1,6 @@
 -- `features::pitch::restore` meets its contract: what its parts ensure, put together. Assumes nothing.
-use Rattle.rules.proofs.Common.{List, ◌≡◌, Float}
+use Rattle.std.specs.Prelude.{◌≡◌}
+use Rattle.rules.proofs.Common.{List, Float}
 use borrow.Author.Rules.{rules}
 use Rattle.rules.proofs.Refusals.{left}
 use Rattle.bands.specs.Bands.{band_corr, band_gain}

@@ -1,6 +1,7 @@
 -- `numbers::lists::at_once` meets its contract: what is followed from the entry at a number's place is its `tansig_in`.
 -- Assumes nothing.
-use Rattle.rules.proofs.Common.{ℕ, List, map, ◌≡◌, ap, ◌∙◌, length, Float, nan}
+use Rattle.std.specs.Prelude.{◌≡◌}
+use Rattle.rules.proofs.Common.{ℕ, List, map, ap, ◌∙◌, length, Float, nan}
 use Rattle.rules.specs.F32.{at}
 use Rattle.rules.specs.Tab.{tab}
 use Rattle.rules.proofs.Lists.{tab_map, get_d_tab, tab_same}

@@ -1,5 +1,6 @@
 -- `numbers::lists::entries` meets its contract. Assumes nothing.
-use Rattle.rules.proofs.Common.{◌≤◌, ◌≡◌, length}
+use Rattle.std.specs.Prelude.{◌≤◌, ◌≡◌}
+use Rattle.rules.proofs.Common.{length}
 use Rattle.rules.specs.F32.{at}
 use Rattle.rules.proofs.Lists.{Filling}
 use Rattle.numbers.specs.Private.{entry_in}

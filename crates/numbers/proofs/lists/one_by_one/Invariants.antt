@@ -1,8 +1,10 @@
 -- `numbers::lists::one_by_one` meets its contract. Assumes nothing.
-use Rattle.rules.proofs.Common.{◌≤◌, ◌≡◌, length, nan}
+use Rattle.std.specs.Prelude.{◌≤◌, ◌≡◌}
+use Rattle.rules.proofs.Common.{length, nan}
 use Rattle.rules.proofs.Lists.{Mapping}
 use Rattle.numbers.specs.Activations.{tansig_in}
 use Rattle.numbers.proofs.lists.one_by_one.Given as goal
 
 abbrev pub invariant-loop-j : goal.invariant-loop-j
-invariant-loop-j l = (l.j ≤ l.j-end) × (l.j-end ≡ length l.initial.xs) × Mapping (tansig_in l.table) nan l.initial.xs l.j l.xs
+invariant-loop-j l = (l.j ≤ l.j-end) × (l.j-end ≡ length l.initial.xs)
+    × Mapping (tansig_in l.table) nan l.initial.xs l.j l.xs

@@ -1,5 +1,6 @@
 -- `numbers::lists::relus` meets its contract. Assumes nothing.
-use Rattle.rules.proofs.Common.{◌≤◌, ◌≡◌, length, nan}
+use Rattle.std.specs.Prelude.{◌≤◌, ◌≡◌}
+use Rattle.rules.proofs.Common.{length, nan}
 use Rattle.rules.proofs.Lists.{Mapping}
 use Rattle.numbers.specs.Larger.{rectified}
 use Rattle.numbers.proofs.lists.relus.Given as goal

@@ -1,5 +1,6 @@
 -- `numbers::lists::sigmoids` meets its contract. Assumes nothing.
-use Rattle.rules.proofs.Common.{List, map, ◌≡◌, ap, ◌∙◌, Float}
+use Rattle.std.specs.Prelude.{◌≡◌}
+use Rattle.rules.proofs.Common.{List, map, ap, ◌∙◌, Float}
 use mathlib.Core.List.{map-map}
 use Rattle.rules.specs.F32.{f32, ◌⊕◌, ◌⊗◌}
 use Rattle.numbers.specs.Activations.{tansig_in, sigmoid_in}

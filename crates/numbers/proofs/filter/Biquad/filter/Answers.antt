@@ -1,5 +1,6 @@
 -- `Biquad::filter` meets its contract. Assumes nothing.
-use Rattle.rules.proofs.Common.{◌≡◌, refl, ap, ◌∙◌, length-set}
+use Rattle.std.specs.Prelude.{◌≡◌}
+use Rattle.rules.proofs.Common.{refl, ap, ◌∙◌, length-set}
 use Rattle.std.proofs.Common.{arith}
 use Rattle.rules.specs.Leaf.{◌leaving◌, done, refused}
 use Rattle.numbers.specs.declared.filter.Memory.{Memory}

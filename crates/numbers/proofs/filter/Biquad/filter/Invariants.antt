@@ -1,5 +1,6 @@
 -- `Biquad::filter` meets its contract. Assumes nothing.
-use Rattle.rules.proofs.Common.{◌≤◌, ◌≡◌, length}
+use Rattle.std.specs.Prelude.{◌≤◌, ◌≡◌}
+use Rattle.rules.proofs.Common.{length}
 use Rattle.numbers.specs.Private.{memory_in}
 use Rattle.numbers.proofs.Outputs.{Filtering}
 use Rattle.numbers.proofs.filter.Biquad.filter.Given as goal
