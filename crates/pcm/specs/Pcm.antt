@@ -48,8 +48,8 @@ as_sample y = clipped (neg (f32 0x47000000)) (f32 0x46FFFE00) y
 -- Each part is exact, so the sum is rounded only once.
 unfoldable pub halves : List ℕ → ℕ → Float
 unfolding signed
-halves bytes a = signed 32768 (two_bytes_at bytes (a + 2)) ⊕ of_int binary32 (pos (two_bytes_at bytes a)) ⊘ f32
-    0x47800000
+halves bytes a =
+    signed 32768 (two_bytes_at bytes (a + 2)) ⊕ of_int binary32 (pos (two_bytes_at bytes a)) ⊘ f32 0x47800000
 
 -- The sample whose bytes begin at place a. With 24 bits the lowest byte is a fraction. A float has full scale at 1: it
 -- is clipped to -1 and 32767 / 32768, and then scaled.

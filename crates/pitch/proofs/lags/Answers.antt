@@ -30,8 +30,7 @@ loop-i-preserved c =
       omega arith,
       refl,
       called.auto.lpc ∙ l.invariant.2,
-      walk_more _ _ _ l.invariant.3
-          (rw (← called.ensures, c.if-error-ac.false)),
+      walk_more _ _ _ l.invariant.3 (rw (← called.ensures, c.if-error-ac.false)),
     )
 
 pub returns : goal.returns

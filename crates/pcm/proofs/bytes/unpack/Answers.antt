@@ -29,8 +29,8 @@ overflow_mul-block c =
     )
 
 pub nonzero_rem-bytes : goal.nonzero_rem-bytes
-nonzero_rem-bytes c = some c.args.channels c.args.channel c.width_of-width.result c.if-width-eq0.false
-    c.if-channel-channels.false
+nonzero_rem-bytes c =
+    some c.args.channels c.args.channel c.width_of-width.result c.if-width-eq0.false c.if-channel-channels.false
 
 pub returns-then-bytes-block-ne0 : goal.returns-then-bytes-block-ne0
 returns-then-bytes-block-ne0 c =
@@ -38,8 +38,8 @@ returns-then-bytes-block-ne0 c =
     refl
 
 pub nonzero_div-bytes : goal.nonzero_div-bytes
-nonzero_div-bytes c = some c.args.channels c.args.channel c.width_of-width.result c.if-width-eq0.false
-    c.if-channel-channels.false
+nonzero_div-bytes c =
+    some c.args.channels c.args.channel c.width_of-width.result c.if-width-eq0.false c.if-channel-channels.false
 
 pub returns-then-bytes-block : goal.returns-then-bytes-block
 returns-then-bytes-block c =

@@ -16,12 +16,14 @@ pub returns-then-x : goal.returns-then-x
 returns-then-x c = (at_the_top c.args.x c.args.most c.requires.0 c.if-x.true c.requires.1, c.requires.1)
 
 pub truncating_f32_to_u64-requires : goal.truncating_f32_to_u64-requires
-truncating_f32_to_u64-requires c = let k = rounded c.args.x c.well_formed.0.1 c.requires.0 c.if-x.false
-    in record { lower_bound = k.above; upper_bound = k.under }
+truncating_f32_to_u64-requires c =
+    let k = rounded c.args.x c.well_formed.0.1 c.requires.0 c.if-x.false in
+    record { lower_bound = k.above; upper_bound = k.under }
 
 pub overflow_add-r : goal.overflow_add-r
-overflow_add-r c = let k = rounded c.args.x c.well_formed.0.1 c.requires.0 c.if-x.false
-    in omega (arith, k.small, c.truncating_f32_to_u64.ensures)
+overflow_add-r c =
+    let k = rounded c.args.x c.well_formed.0.1 c.requires.0 c.if-x.false in
+    omega (arith, k.small, c.truncating_f32_to_u64.ensures)
 
 pub returns-then-r-most : goal.returns-then-r-most
 returns-then-r-most c =
