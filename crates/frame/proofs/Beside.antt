@@ -1,6 +1,7 @@
 -- What the calls leave alone: a share keeps its length, and a place that lies apart from the written ones keeps its
 -- numbers. Assumes nothing.
-use Rattle.rules.proofs.Common.{ℕ, ◌+◌, ◌≤◌, List, [], ◌∷◌, ◌≡◌, refl, ap, ◌∙◌, length, replicate, length-append, Float}
+use Rattle.std.specs.Prelude.{◌+◌, ◌≤◌, ◌∷◌, ◌≡◌}
+use Rattle.rules.proofs.Common.{ℕ, List, [], refl, ap, ◌∙◌, length, replicate, length-append, Float}
 use native.Mathlib.Omega.{arith}
 use Rattle.rules.specs.F32.{f32}
 use Rattle.rules.specs.Place.{Place, get, put}

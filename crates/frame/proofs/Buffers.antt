@@ -3,7 +3,8 @@
 --                                         code lends it
 --     onto-more, to_none                  buffers behind those that are written to; a call that writes to no buffer
 -- Assumes nothing.
-use Rattle.rules.proofs.Common.{ℕ, ◌+◌, ◌-◌, ◌≤◌, List, [], ◌∷◌, ◌++◌, ◌≡◌, refl, ap, length, Float}
+use Rattle.std.specs.Prelude.{◌+◌, ◌-◌, ◌≤◌, ◌∷◌, ◌++◌, ◌≡◌}
+use Rattle.rules.proofs.Common.{ℕ, List, [], refl, ap, length, Float}
 use native.Mathlib.Nat.{add-sub_cancel_left}
 use native.Mathlib.Omega.{arith}
 use lib.ListN.{take-append-drop}

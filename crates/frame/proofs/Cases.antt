@@ -1,6 +1,7 @@
 -- What a call can give: what holds of every refusal, and of what is right where nothing is refused, holds of the call.
 -- Assumes nothing.
-use Rattle.rules.proofs.Common.{ℕ, ◌≤◌, Bool, true, false, cond, not, List, [], ◌∷◌, ◌≡◌, refl, sym, ltb, length, Float}
+use Rattle.std.specs.Prelude.{◌≤◌, ◌∷◌, ◌≡◌}
+use Rattle.rules.proofs.Common.{ℕ, Bool, true, false, cond, not, List, [], refl, sym, ltb, length, Float}
 use borrow.Author.Tests.{ltb-false}
 use Rattle.rules.specs.Place.{get}
 use Rattle.rules.proofs.Refusals.{Right, right}

@@ -1,5 +1,6 @@
 -- What a call gives where it is refused nothing; and call 3, where `out` has no place. Assumes nothing.
-use Rattle.rules.proofs.Common.{ℕ, ◌≤◌, Bool, true, false, cond, ◌||◌, true≢false, false≢true, List, ◌≡◌, refl, sym, ap}
+use Rattle.std.specs.Prelude.{◌≤◌, ◌||◌, ◌≡◌}
+use Rattle.rules.proofs.Common.{ℕ, Bool, true, false, cond, true≢false, false≢true, List, refl, sym, ap}
 use Rattle.rules.proofs.Common.{◌∙◌, length, Float}
 use borrow.Author.Tests.{eq-eqb, le-ltb}
 use Rattle.samples.specs.Samples.{good}

@@ -1,5 +1,6 @@
 -- What every call keeps, whatever it is given: the share's length; and, refused, the share. Assumes nothing.
-use Rattle.rules.proofs.Common.{ℕ, true, false, true≢false, List, [], ◌≡◌, refl, sym, ◌∙◌, length, Float}
+use Rattle.std.specs.Prelude.{◌≡◌}
+use Rattle.rules.proofs.Common.{ℕ, true, false, true≢false, List, [], refl, sym, ◌∙◌, length, Float}
 use native.Mathlib.Omega.{arith}
 use mathlib.Core.Logic.{inl}
 use Rattle.rules.specs.Place.{Place}

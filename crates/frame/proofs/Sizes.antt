@@ -1,6 +1,7 @@
 -- The fields of a whole share have their sizes. Said here, where no function's facts are in reach, they cost nothing.
 -- Assumes nothing.
-use Rattle.rules.proofs.Common.{ℕ, ◌+◌, ◌-◌, ◌≤◌, ◌<◌, List, ◌≡◌, sym, ap, ◌∙◌, length, take, drop, Float}
+use Rattle.std.specs.Prelude.{◌+◌, ◌-◌, ◌≤◌, ◌<◌, ◌≡◌}
+use Rattle.rules.proofs.Common.{ℕ, List, sym, ap, ◌∙◌, length, take, drop, Float}
 use native.Mathlib.Nat.{zero-add}
 use native.Mathlib.Omega.{arith}
 use lib.Seq.{get_or-take, get_or-drop}

@@ -1,5 +1,6 @@
 -- A frame is silent or heard, as its sound says. Assumes nothing.
-use Rattle.rules.proofs.Common.{ℕ, Bool, true, false, cond, true≢false, false≢true, List, [], ◌∷◌, ◌≡◌, refl, sym, ap}
+use Rattle.std.specs.Prelude.{◌∷◌, ◌≡◌}
+use Rattle.rules.proofs.Common.{ℕ, Bool, true, false, cond, true≢false, false≢true, List, [], refl, sym, ap}
 use Rattle.rules.proofs.Common.{◌∙◌, Float}
 use Rattle.rules.specs.Place.{get}
 use Rattle.features.specs.Silence.{energy, is_silent, sound_of}

@@ -1,5 +1,6 @@
 -- A heard frame's stages, put together: from what each call leaves to the definition. Assumes nothing.
-use Rattle.rules.proofs.Common.{ℕ, ◌+◌, ◌≤◌, List, ◌++◌, ◌≡◌, refl, ap, ◌∙◌, length, length-append, Float}
+use Rattle.std.specs.Prelude.{◌+◌, ◌≤◌, ◌++◌, ◌≡◌}
+use Rattle.rules.proofs.Common.{ℕ, List, refl, ap, ◌∙◌, length, length-append, Float}
 use native.Mathlib.Omega.{arith}
 use Rattle.rules.specs.F32.{at}
 use Rattle.rules.specs.Place.{Place, get, put}

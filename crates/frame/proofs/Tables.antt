@@ -1,5 +1,6 @@
 -- Laws of a table of refusals whose rows are replies. Assumes nothing.
-use Rattle.rules.proofs.Common.{ℕ, Bool, true, false, cond, true≢false, false≢true, List, [], ◌∷◌, ◌≡◌, refl, sym, ◌∙◌}
+use Rattle.std.specs.Prelude.{◌∷◌, ◌≡◌}
+use Rattle.rules.proofs.Common.{ℕ, Bool, true, false, cond, true≢false, false≢true, List, [], refl, sym, ◌∙◌}
 use Rattle.rules.proofs.Common.{Float}
 use Rattle.frame.specs.declared.Reply.{Reply}
 use Rattle.frame.specs.declared.Reply.TheVariants.{Done, Refused}

@@ -1,5 +1,6 @@
 -- What a call gives, and what a contract says about it.
-use Rattle.rules.specs.Common.{ℕ, cond, List, [], ◌≡◌, length, drop, Float}
+use Rattle.std.specs.Prelude.{◌≡◌}
+use Rattle.rules.specs.Common.{ℕ, cond, List, [], length, drop, Float}
 use Rattle.frame.specs.Written.{Written, onto, fronts}
 use Rattle.frame.specs.Reply.{passed, first_refusal}
 use Rattle.frame.specs.declared.Reply.{Reply}

@@ -1,6 +1,7 @@
 -- The four calls of a frame on one share. The contracts of `frame` cite these definitions. A share does not
 -- know to which bench it belongs.
-use Rattle.rules.specs.Common.{ℕ, ◌+◌, ◌-◌, Bool, cond, not, ◌&&◌, List, [], ◌∷◌, ◌++◌, eqb, ltb, length, pos, Float}
+use Rattle.std.specs.Prelude.{◌+◌, ◌-◌, ◌&&◌, ◌∷◌, ◌++◌}
+use Rattle.rules.specs.Common.{ℕ, Bool, cond, not, List, [], eqb, ltb, length, pos, Float}
 use Rattle.rules.specs.Common.{binary32, of_int}
 use Rattle.rules.specs.F32.{◌⊕◌, ◌⊘◌, at, f32}
 use Rattle.rules.specs.Place.{Place, get, put}

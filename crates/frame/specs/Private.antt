@@ -1,5 +1,6 @@
 -- For the contracts of private functions: what a function leaves, as a value of the step's definition.
-use Rattle.rules.specs.Common.{ℕ, Bool, true, false, List, ◌≡◌, Float}
+use Rattle.std.specs.Prelude.{◌≡◌}
+use Rattle.rules.specs.Common.{ℕ, Bool, true, false, List, Float}
 use Rattle.model.specs.Model.{read_of}
 use Rattle.model.specs.declared.Model.{Model}
 use Rattle.model.specs.declared.Reading.TheVariants.{Good}

@@ -1,5 +1,6 @@
 -- What the replies mean.
-use Rattle.rules.specs.Common.{ℕ, ◌+◌, Bool, true, false, cond, List, [], ◌∷◌, ltb}
+use Rattle.std.specs.Prelude.{◌+◌, ◌∷◌}
+use Rattle.rules.specs.Common.{ℕ, Bool, true, false, cond, List, [], ltb}
 use Rattle.frame.specs.declared.Reply.{Reply}
 use Rattle.frame.specs.declared.Reply.TheVariants.{Done, Silent, Heard, Numbered, Refused, Misread}
 

@@ -1,5 +1,6 @@
 -- What a call writes to a lent buffer, whatever the buffer held before. Laws: proofs/Buffers.antt.
-use Rattle.rules.specs.Common.{ℕ, List, [], ◌∷◌, ◌++◌, length, get_or, drop, Float}
+use Rattle.std.specs.Prelude.{◌∷◌, ◌++◌}
+use Rattle.rules.specs.Common.{ℕ, List, [], length, get_or, drop, Float}
 use Rattle.rules.specs.Place.{put}
 
 -- `all`: the whole buffer becomes these numbers. `from`: these numbers are written from a place on, and the

@@ -1,6 +1,7 @@
 -- What a half can give: what holds of every refusal, and of what its two calls give one after the other, holds of the
 -- half. Assumes nothing.
-use Rattle.rules.proofs.Common.{ℕ, ◌≤◌, List, [], ◌∷◌, ◌≡◌, refl, sym, subst, ltb, length, drop, Float}
+use Rattle.std.specs.Prelude.{◌≤◌, ◌∷◌, ◌≡◌}
+use Rattle.rules.proofs.Common.{ℕ, List, [], refl, sym, subst, ltb, length, drop, Float}
 use native.Mathlib.Omega.{arith}
 use mathlib.Core.Logic.{inl}
 use Rattle.rules.specs.Place.{get}

@@ -1,6 +1,7 @@
 -- What both ways have in common: a lag that call 2 takes (`lag_fits`), the lengths of a spectrum and of its samples,
 -- and that the finder's two numbers alone are written (`remembered_beside`). Assumes nothing.
-use Rattle.rules.proofs.Common.{ℕ, ◌≤◌, List, ◌≡◌, refl, length, Float}
+use Rattle.std.specs.Prelude.{◌≤◌, ◌≡◌}
+use Rattle.rules.proofs.Common.{List, refl, length, Float}
 use native.Mathlib.Omega.{arith}
 use mathlib.Core.Logic.{inl}
 use Rattle.rules.specs.F32.{at}

@@ -1,7 +1,8 @@
 -- The law of request 08 over one share: accepted, a half is its two calls, one after the other, with the spectra and
 -- the lag of its way lent.
 -- Assumes nothing.
-use Rattle.rules.proofs.Common.{ℕ, Bool, true, false, cond, false≢true, List, [], ◌∷◌, ◌≡◌, refl, sym, ap, ◌∙◌, ltb}
+use Rattle.std.specs.Prelude.{◌∷◌, ◌≡◌}
+use Rattle.rules.proofs.Common.{ℕ, Bool, true, false, cond, false≢true, List, [], refl, sym, ap, ◌∙◌, ltb}
 use Rattle.rules.proofs.Common.{length, drop, Float}
 use Rattle.rules.specs.Refusals.{wrong}
 use Rattle.frame.specs.Written.{first_in}

@@ -1,7 +1,8 @@
 -- What the halves keep, as the calls do: a share's length, and refused all of it; and every place that lies apart from
 -- the written ones.
 -- Assumes nothing.
-use Rattle.rules.proofs.Common.{ℕ, List, [], ◌∷◌, ◌≡◌, refl, length, Float}
+use Rattle.std.specs.Prelude.{◌∷◌, ◌≡◌}
+use Rattle.rules.proofs.Common.{ℕ, List, [], refl, length, Float}
 use native.Mathlib.Omega.{arith}
 use mathlib.Core.Logic.{inl}
 use Rattle.rules.specs.Place.{Place, get}

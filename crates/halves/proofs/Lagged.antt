@@ -1,6 +1,7 @@
 -- The window of the lag that stands in a share: behind a call 2, whoever made it, the second half looks at that call's
 -- window. Assumes nothing.
-use Rattle.rules.proofs.Common.{ℕ, ◌+◌, ◌-◌, ◌≤◌, List, [], ◌∷◌, ◌≡◌, refl, ◌∙◌, ltb, length, take, drop, pos, Float}
+use Rattle.std.specs.Prelude.{◌+◌, ◌-◌, ◌≤◌, ◌∷◌, ◌≡◌}
+use Rattle.rules.proofs.Common.{ℕ, List, [], refl, ◌∙◌, ltb, length, take, drop, pos, Float}
 use Rattle.rules.proofs.Common.{binary32, of_int}
 use native.Mathlib.Omega.{arith}
 use mathlib.Core.Logic.{inr}

@@ -1,5 +1,6 @@
 -- A second call behind a first: what the code knows of both is what the half gives. Assumes nothing.
-use Rattle.rules.proofs.Common.{ℕ, ◌≤◌, true, false, true≢false, false≢true, List, [], ◌∷◌, ◌≡◌, refl, sym, ap, ◌∙◌}
+use Rattle.std.specs.Prelude.{◌≤◌, ◌∷◌, ◌≡◌}
+use Rattle.rules.proofs.Common.{ℕ, true, false, true≢false, false≢true, List, [], refl, sym, ap, ◌∙◌}
 use Rattle.rules.proofs.Common.{length, get_or, drop, Float}
 use borrow.Author.Tests.{eq-eqb, le-ltb}
 use Rattle.frame.specs.declared.Hearing.{Hearing}

@@ -2,7 +2,8 @@
 --     first_done, three-passes        the first half, and call 3 of the second, where nothing is refused
 --     first-tests, second-tests       what is claimed
 -- Assumes nothing.
-use Rattle.rules.proofs.Common.{ℕ, ◌≤◌, Bool, true, false, cond, not, true≢false, false≢true, List, [], ◌∷◌, ◌≡◌, refl}
+use Rattle.std.specs.Prelude.{◌≤◌, ◌∷◌, ◌≡◌}
+use Rattle.rules.proofs.Common.{ℕ, Bool, true, false, cond, not, true≢false, false≢true, List, [], refl}
 use Rattle.rules.proofs.Common.{sym, ap, ◌∙◌, ltb, length, Float}
 use borrow.Author.Tests.{eq-eqb, ltb-false}
 use Rattle.rules.specs.Place.{get}
@@ -19,7 +20,7 @@ use Rattle.frame.specs.declared.Reply.{Reply}
 use Rattle.frame.specs.declared.Reply.TheVariants.{Done, Refused}
 use Rattle.frame.specs.declared.Way.{Way}
 use Rattle.frame.specs.Written.{first_in}
-use Rattle.frame.specs.Reply.{passed, ◌refusedIf◌, first_refusal}
+use Rattle.frame.specs.Reply.{passed, ◌refusedIf◌}
 use Rattle.frame.specs.Share.{PART, kept_ex}
 use Rattle.frame.specs.Heard.{Spoken, spoken}
 use Rattle.frame.specs.Effect.{Effect, refusal}
@@ -107,7 +108,8 @@ module _ (share : List Float) (hearing : Hearing) (logs : List Float) (model : L
       go true e s = refl
       go false e s = refl
 
-  by_reading_lem : (r : Reading) → passed (checked counts r) ≡ true → passed (modelled counts r share three).answer ≡ true
+  by_reading_lem : (r : Reading) → passed (checked counts r) ≡ true
+      → passed (modelled counts r share three).answer ≡ true
   unfolding checked
   by_reading_lem (Unread n k) e = e
   by_reading_lem (Good m) e = go (counts m) e

@@ -1,7 +1,8 @@
 -- A frame in two halves (request 08): calls 1 and 2, and calls 3 and 4, with the lag and the transforms of
 -- the bench's way. The host only computes the logarithms of the first half's sums. A half tests all refusals
 -- of its two calls before it changes anything.
-use Rattle.rules.specs.Common.{ℕ, cond, List, [], ◌∷◌, ltb, length, drop, Float}
+use Rattle.std.specs.Prelude.{◌∷◌}
+use Rattle.rules.specs.Common.{ℕ, cond, List, [], ltb, length, drop, Float}
 use Rattle.rules.specs.F32.{at}
 use Rattle.rules.specs.Place.{get}
 use Rattle.rules.specs.Refusals.{wrong}

@@ -1,6 +1,7 @@
 -- Claims about the calls that are made of others, on one share. Proofs: proofs/Sister, Lagged, Joined,
 -- Tested.
-use Rattle.rules.specs.Common.{ℕ, true, false, not, List, [], ◌∷◌, ◌≡◌, ltb, length, drop, Float}
+use Rattle.std.specs.Prelude.{◌∷◌, ◌≡◌}
+use Rattle.rules.specs.Common.{ℕ, true, false, not, List, [], ltb, length, drop, Float}
 use Rattle.rules.specs.Place.{get}
 use Rattle.rules.specs.Refusals.{wrong}
 use Rattle.frame.specs.Written.{Written, first_in}

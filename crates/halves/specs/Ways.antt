@@ -1,6 +1,7 @@
 -- The two ways of a bench: our own lag and the plain sums (requests 04 and 08), or nnnoiseless's finder and
 -- the fast transforms.
-use Rattle.rules.specs.Common.{ℕ, List, [], ◌∷◌, pos, Float, binary32, of_int}
+use Rattle.std.specs.Prelude.{◌∷◌}
+use Rattle.rules.specs.Common.{ℕ, List, [], pos, Float, binary32, of_int}
 use Rattle.rules.specs.F32.{at}
 use Rattle.rules.specs.Place.{get, put}
 use Rattle.lag.specs.Lag.{own_lag}

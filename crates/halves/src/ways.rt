@@ -9,7 +9,7 @@ use frame::{Lag, Way};
 // The finder's period. The finder remembers it, with its gain.
 fn find(share: &mut [f32]) -> Lag
     requires { length share.old ≡ 3778 }
-    ensures result_value { result.0 ≡ lag_by Nnnoiseless share.old }
+    ensures lag_told { result.0 ≡ lag_by Nnnoiseless share.old }
     ensures share_after { share.new ≡ remembered Nnnoiseless share.old }
 {
     let found = finder::find(share[3776], share[3777], &share[0..1728]);
@@ -22,7 +22,7 @@ fn find(share: &mut [f32]) -> Lag
 // The lag of a way. What is remembered of it is stored.
 pub(crate) fn lag(share: &mut [f32], way: Way) -> Lag
     requires { length share.old ≡ 3778 }
-    ensures result_value { result.0 ≡ lag_by way share.old }
+    ensures lag_told { result.0 ≡ lag_by way share.old }
     ensures share_after { share.new ≡ remembered way share.old }
 {
     match way {

@@ -1,7 +1,8 @@
 -- What holds of layers that the writer accepts. Assumes nothing.
 --     accepted     no refusal: each layer's table is clear, the layers go together, and the buffer is long enough
 --     fit          they are layers that a file can hold
-use Rattle.rules.proofs.Common.{ℕ, zero, suc, ◌+◌, ◌*◌, ◌≤◌, false, List, [], ◌∷◌, ◌++◌, map, ◌≡◌, sym, ap, ◌∙◌, ltb}
+use Rattle.std.specs.Prelude.{◌+◌, ◌*◌, ◌≤◌, ◌∷◌, ◌++◌, ◌≡◌}
+use Rattle.rules.proofs.Common.{ℕ, zero, suc, false, List, [], map, sym, ap, ◌∙◌, ltb}
 use Rattle.rules.proofs.Common.{length, get_or, take, drop}
 use Rattle.rules.proofs.Common.{length-drop, length-append}
 use mathlib.Core.List.{append-nil, append_assoc}

@@ -1,6 +1,7 @@
 -- What readings stay within: no longer file reads than the largest model's, and a refusal is a number of the table.
 -- Assumes nothing.
-use Rattle.rules.proofs.Common.{ℕ, zero, suc, ◌+◌, ◌*◌, ◌^◌, ◌≤◌, ◌<◌, List, [], ◌∷◌, ◌≡◌, refl, sym, subst, length}
+use Rattle.std.specs.Prelude.{◌+◌, ◌*◌, ◌^◌, ◌≤◌, ◌<◌, ◌∷◌, ◌≡◌}
+use Rattle.rules.proofs.Common.{ℕ, zero, suc, List, [], refl, sym, subst, length}
 use Rattle.rules.proofs.Common.{get_or, length-append}
 use native.Mathlib.Nat.{add-mul}
 use native.Mathlib.Numerals.{add-one}

@@ -2,7 +2,8 @@
 --     reads-back      six layers that fit and go together are read back from their file
 --     writes-back     a file that reads is the bytes of its layers
 --     same-layers     layers that share a file are the same
-use Rattle.rules.proofs.Common.{ℕ, false, not, List, [], ◌∷◌, ◌++◌, ◌≡◌, refl, sym, ap, ◌∙◌, eqb, length}
+use Rattle.std.specs.Prelude.{◌∷◌, ◌++◌, ◌≡◌}
+use Rattle.rules.proofs.Common.{ℕ, false, not, List, [], refl, sym, ap, ◌∙◌, eqb, length}
 use mathlib.Core.List.{append-nil}
 use native.Mathlib.Omega.{arith}
 use borrow.Author.Tests.{eqb-true, not-false}

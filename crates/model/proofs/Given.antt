@@ -1,7 +1,8 @@
 -- The refusals of layers as they are given. Assumes nothing.
 --     bad-layer, first-differs ..     one layer's, by its tests
 --     stopped, on                     those of layers in a row, by the writer's loop
-use Rattle.rules.proofs.Common.{ℕ, zero, suc, ◌+◌, ◌*◌, ◌≤◌, ◌<◌, Bool, true, false, cond, List, [], ◌∷◌, ◌++◌, ◌≡◌}
+use Rattle.std.specs.Prelude.{◌+◌, ◌*◌, ◌≤◌, ◌<◌, ◌∷◌, ◌++◌, ◌≡◌}
+use Rattle.rules.proofs.Common.{ℕ, zero, suc, Bool, true, false, cond, List, []}
 use Rattle.rules.proofs.Common.{refl, sym, ◌∙◌, length, get_or}
 use Rattle.rules.proofs.Common.{take, drop}
 use native.Mathlib.Numerals.{add-one}

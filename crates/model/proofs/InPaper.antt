@@ -1,5 +1,6 @@
 -- What document 01 says of a step. Assumes nothing.
-use Rattle.rules.proofs.Common.{◌+◌, [], ◌∷◌, refl, length, drop}
+use Rattle.std.specs.Prelude.{◌+◌, ◌∷◌}
+use Rattle.rules.proofs.Common.{[], refl, length, drop}
 use Rattle.rules.proofs.Refusals.{along}
 use Rattle.model.specs.Layer.{activation_number, bytes_of, layer_of, faults_of, header_at, step_number, step_values}
 use Rattle.model.specs.Layer.{step_at}

@@ -1,7 +1,8 @@
 -- Reading and writing are each the other's inverse, for one layer and for layers in a row. Assumes nothing.
 --     layer-reads, row_reads     the bytes of layers that fit read as these layers, and nothing refuses them
 --     layer_fits, row_fits       what nothing refuses is the bytes of its layers, and they fit
-use Rattle.rules.proofs.Common.{ℕ, zero, suc, ◌≤◌, true≢false, List, [], ◌∷◌, ◌++◌, ◌≡◌, refl, sym, ap, subst, ◌∙◌}
+use Rattle.std.specs.Prelude.{◌≤◌, ◌∷◌, ◌++◌, ◌≡◌}
+use Rattle.rules.proofs.Common.{ℕ, zero, suc, true≢false, List, [], refl, sym, ap, subst, ◌∙◌}
 use Rattle.rules.proofs.Common.{length, drop, length-take}
 use Rattle.rules.proofs.Common.{length-drop, length-append}
 use mathlib.Core.List.{append_assoc}

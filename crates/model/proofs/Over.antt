@@ -1,5 +1,6 @@
 -- Bytes written one behind the other. Assumes nothing.
-use Rattle.rules.proofs.Common.{ℕ, ◌+◌, ◌≤◌, List, ◌++◌, ◌≡◌, sym, ap, ◌∙◌, length, take, drop, length-take}
+use Rattle.std.specs.Prelude.{◌+◌, ◌≤◌, ◌++◌, ◌≡◌}
+use Rattle.rules.proofs.Common.{ℕ, List, sym, ap, ◌∙◌, length, take, drop, length-take}
 use Rattle.rules.proofs.Common.{length-drop, length-append}
 use mathlib.Core.List.{append_assoc}
 use native.Mathlib.Nat.{add_assoc}

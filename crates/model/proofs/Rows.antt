@@ -1,5 +1,6 @@
 -- The number that a table of refusals gives, and tables one behind the other. Assumes nothing.
-use Rattle.rules.proofs.Common.{ℕ, ◌+◌, ◌*◌, true, false, List, [], ◌∷◌, ◌++◌, ◌≡◌, ap}
+use Rattle.std.specs.Prelude.{◌+◌, ◌*◌, ◌∷◌, ◌++◌, ◌≡◌}
+use Rattle.rules.proofs.Common.{ℕ, true, false, List, [], ap}
 use Rattle.rules.specs.Refusals.{Row, ◌when◌}
 use Rattle.rules.proofs.Refusals.{Clear}
 use Rattle.model.specs.Writer.{in_layer}

@@ -1,5 +1,6 @@
 -- What holds of each model that reads: its layers lie within the file, and their counts go together. Assumes nothing.
-use Rattle.rules.proofs.Common.{ℕ, false, List, ◌≡◌, subst, eqb, length}
+use Rattle.std.specs.Prelude.{◌≡◌}
+use Rattle.rules.proofs.Common.{ℕ, false, List, subst, eqb, length}
 use native.Mathlib.Nat.{le_refl}
 use borrow.Author.Tests.{eqb-true, not-false}
 use Rattle.rules.proofs.Refusals.{Clear}

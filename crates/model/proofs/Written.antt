@@ -2,7 +2,8 @@
 --     written-reads     what is written reads back as the same layers
 --     read-writes       what reads is written back byte for byte
 --     none-shared       two models that differ never share a file
-use Rattle.rules.proofs.Common.{ℕ, zero, suc, ◌*◌, ◌≤◌, false, not, true≢false, List, [], ◌∷◌, ◌++◌, map, ◌≡◌, refl}
+use Rattle.std.specs.Prelude.{◌*◌, ◌≤◌, ◌∷◌, ◌++◌, ◌≡◌}
+use Rattle.rules.proofs.Common.{ℕ, zero, suc, false, not, true≢false, List, [], map, refl}
 use Rattle.rules.proofs.Common.{sym, ap, subst, ◌∙◌, eqb, ltb}
 use Rattle.rules.proofs.Common.{length, get_or, take, drop, length-drop}
 use mathlib.Core.List.{map-append}

@@ -1,6 +1,7 @@
 -- What is claimed of the writer and the reader, each the inverse of the other (proofs/Written), and of what reads
 -- (proofs/Shapes, proofs/Bounds, proofs/Arrays).
-use Rattle.rules.specs.Common.{ℕ, ◌+◌, ◌≤◌, ◌<◌, List, [], ◌∷◌, ◌++◌, ◌≡◌, length, get_or, take, drop}
+use Rattle.std.specs.Prelude.{◌+◌, ◌≤◌, ◌<◌, ◌∷◌, ◌++◌, ◌≡◌}
+use Rattle.rules.specs.Common.{ℕ, List, [], length, get_or, take, drop}
 use Rattle.rules.specs.Leaf.{◌leaving◌}
 use Rattle.rules.specs.Place.{get}
 use Rattle.rules.specs.Refusals.{refusing}

@@ -1,6 +1,7 @@
 -- One layer of a model file (rnn.rs, `read_dense` and `read_gru` in `from_bytes_impl`): as data, as bytes, and what
 -- reading it gives.
-use Rattle.rules.specs.Common.{ℕ, zero, suc, ◌+◌, ◌*◌, List, [], ◌∷◌, ◌++◌, eqb, ltb, length, get_or, take, drop}
+use Rattle.std.specs.Prelude.{◌+◌, ◌*◌, ◌∷◌, ◌++◌}
+use Rattle.rules.specs.Common.{ℕ, zero, suc, List, [], eqb, ltb, length, get_or, take, drop}
 use Rattle.rules.specs.Lists.{sum}
 use Rattle.rules.specs.Refusals.{Row, ◌when◌, refusing}
 use Rattle.model.specs.declared.Activation.{Activation}

@@ -1,5 +1,6 @@
 -- A model file: six layers one after the other (rnn.rs, `from_bytes_impl`).
-use Rattle.rules.specs.Common.{ℕ, suc, ◌+◌, Bool, not, ◌||◌, List, [], ◌∷◌, map, eqb, length, get_or}
+use Rattle.std.specs.Prelude.{◌+◌, ◌||◌, ◌∷◌}
+use Rattle.rules.specs.Common.{ℕ, suc, Bool, not, List, [], map, eqb, length, get_or}
 use Rattle.rules.specs.Refusals.{Row, ◌when◌, refusing}
 use Rattle.model.specs.Layer.{Layer, bytes_of, layer_of, faults_of, rest_of, header_at}
 use Rattle.model.specs.declared.Activation.TheVariants.{Tanh}

@@ -1,5 +1,6 @@
 -- For the contracts of private functions of the reader and the writer.
-use Rattle.rules.specs.Common.{ℕ, ◌+◌, ◌<◌, List, [], ◌∷◌, ◌++◌, ◌≡◌, length, get_or, take, drop}
+use Rattle.std.specs.Prelude.{◌+◌, ◌<◌, ◌∷◌, ◌++◌, ◌≡◌}
+use Rattle.rules.specs.Common.{ℕ, List, [], length, get_or, take, drop}
 use Rattle.rules.specs.Refusals.{Row, refusing}
 use Rattle.model.specs.Layer.{size_of, activation_of, faults}
 use Rattle.model.specs.Model.{counts_at}

@@ -1,5 +1,6 @@
 -- What a host learns of a file: thirty numbers, or a refusal and its layer in one number.
-use Rattle.rules.specs.Common.{ℕ, ◌+◌, ◌*◌, ◌/◌, ◌%◌, List, [], ◌∷◌, length, get_or}
+use Rattle.std.specs.Prelude.{◌+◌, ◌*◌, ◌/◌, ◌%◌, ◌∷◌}
+use Rattle.rules.specs.Common.{ℕ, List, [], length, get_or}
 use Rattle.rules.specs.Leaf.{◌leaving◌}
 use Rattle.rules.specs.Refusals.{◌when◌, refusing}
 use Rattle.rules.specs.Tab.{tab}

@@ -1,5 +1,6 @@
 -- The writer of a model file (request 01): counts, activations and arrays of six layers become the bytes of the file.
-use Rattle.rules.specs.Common.{ℕ, suc, ◌+◌, ◌*◌, Bool, true, false, ◌||◌, List, [], ◌∷◌, ◌++◌, map, ltb, length, get_or}
+use Rattle.std.specs.Prelude.{◌+◌, ◌*◌, ◌||◌, ◌∷◌, ◌++◌}
+use Rattle.rules.specs.Common.{ℕ, suc, Bool, true, false, List, [], map, ltb, length, get_or}
 use Rattle.rules.specs.Common.{take, drop}
 use Rattle.rules.specs.Leaf.{◌leaving◌}
 use Rattle.rules.specs.Refusals.{Row, ◌when◌, refusing}

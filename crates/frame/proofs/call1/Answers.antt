@@ -1,5 +1,6 @@
 -- `frame::call1` meets its contract. Assumes nothing.
-use Rattle.rules.proofs.Common.{List, [], ◌∷◌, refl, sym, ap, ap₂, ◌∙◌, length, length-set, length-drop, length-append}
+use Rattle.std.specs.Prelude.{◌∷◌}
+use Rattle.rules.proofs.Common.{List, [], refl, sym, ap, ap₂, ◌∙◌, length, length-set, length-drop, length-append}
 use Rattle.rules.proofs.Common.{Float}
 use native.Mathlib.Omega.{arith}
 use Rattle.rules.specs.Place.{get, put}

@@ -1,5 +1,6 @@
 -- `frame::call2` meets its contract. Assumes nothing.
-use Rattle.rules.proofs.Common.{List, [], ◌∷◌, refl, ap, ap₂, ◌∙◌, length, length-take, length-drop, Float}
+use Rattle.std.specs.Prelude.{◌∷◌}
+use Rattle.rules.proofs.Common.{List, [], refl, ap, ap₂, ◌∙◌, length, length-take, length-drop, Float}
 use native.Mathlib.Omega.{arith}
 use Rattle.rules.proofs.Refusals.{left as fitted}
 use Rattle.rules.proofs.Tests.{tests}

@@ -1,5 +1,6 @@
 -- `frame::call3` meets its contract. Assumes nothing.
-use Rattle.rules.proofs.Common.{[], ◌∷◌, sym, ◌∙◌, length}
+use Rattle.std.specs.Prelude.{◌∷◌}
+use Rattle.rules.proofs.Common.{[], sym, ◌∙◌, length}
 use native.Mathlib.Omega.{arith}
 use Rattle.model.specs.Model.{read_of}
 use Rattle.rules.proofs.Tests.{tests}

@@ -1,5 +1,6 @@
 -- `frame::call4` meets its contract. Assumes nothing.
-use Rattle.rules.proofs.Common.{List, [], ◌∷◌, refl, ap, length, Float}
+use Rattle.std.specs.Prelude.{◌∷◌}
+use Rattle.rules.proofs.Common.{List, [], refl, ap, length, Float}
 use native.Mathlib.Omega.{arith}
 use Rattle.rules.specs.Place.{get, put}
 use Rattle.rules.proofs.Tests.{tests}

@@ -1,6 +1,7 @@
 -- `model::array_numbers` meets its contract: two numbers that fit, of the place that `array_place` finds.
 -- Assumes nothing.
-use Rattle.rules.proofs.Common.{ℕ, List, [], ◌∷◌, ◌≡◌, refl, sym, ◌∙◌, length, set}
+use Rattle.std.specs.Prelude.{◌∷◌, ◌≡◌}
+use Rattle.rules.proofs.Common.{ℕ, List, [], refl, sym, ◌∙◌, length, set}
 use native.Mathlib.Omega.{arith}
 use borrow.Author.Tests.{eq-eqb}
 use Rattle.rules.proofs.Tests.{tests}

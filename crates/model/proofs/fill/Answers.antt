@@ -1,5 +1,6 @@
 -- The loop's invariant: the numbers passed are those of their lines, and the rest is as it was. Assumes nothing.
-use Rattle.rules.proofs.Common.{◌/◌, ◌%◌, sym, ◌∙◌, length-set}
+use Rattle.std.specs.Prelude.{◌/◌, ◌%◌}
+use Rattle.rules.proofs.Common.{sym, ◌∙◌, length-set}
 use native.Mathlib.Nat.{mod-lt}
 use native.Mathlib.Omega.{arith}
 use Rattle.rules.proofs.Lists.{tab_none, tab_more, tab_done}

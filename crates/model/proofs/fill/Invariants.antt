@@ -1,5 +1,6 @@
 -- The loop's invariant: the numbers passed are those of their lines, and the rest is as it was. Assumes nothing.
-use Rattle.rules.proofs.Common.{◌-◌, ◌≤◌, ◌++◌, ◌≡◌, length, drop}
+use Rattle.std.specs.Prelude.{◌-◌, ◌≤◌, ◌++◌, ◌≡◌}
+use Rattle.rules.proofs.Common.{length, drop}
 use Rattle.rules.specs.Tab.{tab}
 use Rattle.model.specs.Model.{read_of}
 use Rattle.model.specs.Summary.{number_in}

@@ -1,6 +1,7 @@
 -- The loop's invariant: what is still to be read, with the headers so far, gives what reading the file gives.
 -- Assumes nothing.
-use Rattle.rules.proofs.Common.{◌≡◌, refl, sym, ◌∙◌, take, length-set}
+use Rattle.std.specs.Prelude.{◌≡◌}
+use Rattle.rules.proofs.Common.{refl, sym, ◌∙◌, take, length-set}
 use native.Mathlib.Numerals.{add-one}
 use native.Mathlib.Omega.{arith}
 use lib.Seq.{take_all, take-suc-set}

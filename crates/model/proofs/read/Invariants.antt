@@ -1,6 +1,7 @@
 -- The loop's invariant: what is still to be read, with the headers so far, gives what reading the file gives.
 -- Assumes nothing.
-use Rattle.rules.proofs.Common.{◌-◌, ◌≤◌, ◌≡◌, length, take}
+use Rattle.std.specs.Prelude.{◌-◌, ◌≤◌, ◌≡◌}
+use Rattle.rules.proofs.Common.{length, take}
 use Rattle.model.specs.Model.{read_of}
 use Rattle.model.proofs.Steps.{on_from, AllFew}
 use Rattle.model.proofs.read.Given as goal

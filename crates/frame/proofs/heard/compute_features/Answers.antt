@@ -1,5 +1,6 @@
 -- `frame::heard::compute_features` meets its contract: what each call leaves, in a row. Assumes nothing.
-use Rattle.rules.proofs.Common.{ℕ, List, ◌≡◌, ap, ◌∙◌, length, Float}
+use Rattle.std.specs.Prelude.{◌≡◌}
+use Rattle.rules.proofs.Common.{ℕ, List, ap, ◌∙◌, length, Float}
 use Rattle.rules.specs.F32.{at}
 use Rattle.rules.specs.Leaf.{◌leaving◌}
 use Rattle.rules.specs.Place.{get, put}

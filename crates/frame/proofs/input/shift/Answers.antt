@@ -1,6 +1,7 @@
 -- `frame::input::shift` meets its contract. The loop's invariant: the first i places hold what stood a frame further
 -- on, and the others are as they were. Assumes nothing.
-use Rattle.rules.proofs.Common.{◌+◌, ◌≡◌, ap, ◌∙◌, take}
+use Rattle.std.specs.Prelude.{◌+◌, ◌≡◌}
+use Rattle.rules.proofs.Common.{ap, ◌∙◌, take}
 use native.Mathlib.Omega.{arith}
 use lib.Seq.{take_at}
 use Rattle.rules.specs.Tab.{tab}

@@ -1,6 +1,6 @@
 -- `frame::input::shift` meets its contract. The loop's invariant: the first i places hold what stood a frame further
 -- on, and the others are as they were. Assumes nothing.
-use Rattle.rules.proofs.Common.{◌+◌, ◌-◌, ◌≤◌}
+use Rattle.std.specs.Prelude.{◌+◌, ◌-◌, ◌≤◌}
 use Rattle.rules.specs.F32.{at}
 use Rattle.rules.proofs.Lists.{Filling}
 use Rattle.frame.proofs.input.shift.Given as goal

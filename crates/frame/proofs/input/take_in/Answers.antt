@@ -1,5 +1,6 @@
 -- `frame::input::take_in` meets its contract: what each call leaves, in a row. Assumes nothing.
-use Rattle.rules.proofs.Common.{◌+◌, List, [], ◌++◌, ◌≡◌, ap, ◌∙◌, length, take, drop, length-take, length-drop}
+use Rattle.std.specs.Prelude.{◌+◌, ◌++◌, ◌≡◌}
+use Rattle.rules.proofs.Common.{List, [], ap, ◌∙◌, length, take, drop, length-take, length-drop}
 use Rattle.rules.proofs.Common.{length-append, Float}
 use mathlib.Core.List.{append-nil}
 use native.Mathlib.Omega.{arith}

@@ -1,5 +1,6 @@
 -- `frame::lagged::keep` meets its contract: what each call leaves, in a row. Assumes nothing.
-use Rattle.rules.proofs.Common.{List, [], ◌∷◌, ap, ◌∙◌, pos, Float, binary32, of_int}
+use Rattle.std.specs.Prelude.{◌∷◌}
+use Rattle.rules.proofs.Common.{List, [], ap, ◌∙◌, pos, Float, binary32, of_int}
 use native.Mathlib.Omega.{arith}
 use Rattle.rules.specs.Place.{get, put}
 use Rattle.rules.proofs.Refusals.{left as fitted}

@@ -1,6 +1,6 @@
 -- `frame::lagged::lift` meets its contract. The loop's invariant: the first i energies are plusHundredth, and the
 -- others are as they were. Assumes nothing.
-use Rattle.rules.proofs.Common.{◌-◌, ◌≤◌}
+use Rattle.std.specs.Prelude.{◌-◌, ◌≤◌}
 use Rattle.rules.specs.F32.{◌⊕◌, at, f32}
 use Rattle.rules.proofs.Lists.{Filling}
 use Rattle.frame.proofs.lagged.lift.Given as goal

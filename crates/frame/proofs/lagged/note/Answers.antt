@@ -1,5 +1,6 @@
 -- `frame::lagged::note` meets its contract: what each call leaves, in a row. Assumes nothing.
-use Rattle.rules.proofs.Common.{List, [], ◌∷◌, ap, ap₂, ◌∙◌, pos, Float, binary32, of_int}
+use Rattle.std.specs.Prelude.{◌∷◌}
+use Rattle.rules.proofs.Common.{List, [], ap, ap₂, ◌∙◌, pos, Float, binary32, of_int}
 use Rattle.rules.specs.Place.{put}
 use Rattle.frame.specs.Share.{kept_ex, kept_lag}
 use Rattle.frame.specs.Frame.{plus_hundredth, put_kept}

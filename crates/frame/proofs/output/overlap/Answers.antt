@@ -1,7 +1,8 @@
 -- `frame::output::overlap` meets its contract. The loop's invariant: of both slices the first i places are written, and
 -- the others are as they were.
 -- Assumes nothing.
-use Rattle.rules.proofs.Common.{ℕ, ◌+◌, ◌<◌, List, ◌≡◌, ap, ◌∙◌, Float, nan}
+use Rattle.std.specs.Prelude.{◌+◌, ◌<◌, ◌≡◌}
+use Rattle.rules.proofs.Common.{ℕ, List, ap, ◌∙◌, Float, nan}
 use native.Mathlib.Omega.{arith}
 use Rattle.rules.specs.F32.{◌⊕◌, ◌⊗◌, ◌⊘◌, at, f32}
 use Rattle.rules.proofs.Lists.{filling_more, filling_ahead, fills, get_d_tab}

@@ -1,7 +1,7 @@
 -- `frame::output::overlap` meets its contract. The loop's invariant: of both slices the first i places are written, and
 -- the others are as they were.
 -- Assumes nothing.
-use Rattle.rules.proofs.Common.{◌+◌, ◌-◌, ◌≤◌}
+use Rattle.std.specs.Prelude.{◌+◌, ◌-◌, ◌≤◌}
 use Rattle.rules.specs.F32.{◌⊕◌, at}
 use Rattle.rules.proofs.Lists.{Filling}
 use Rattle.frame.specs.Frame.{window_buf}

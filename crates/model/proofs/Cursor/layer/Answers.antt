@@ -1,5 +1,6 @@
 -- The three bytes of a header, or too few. Assumes nothing.
-use Rattle.rules.proofs.Common.{◌+◌, ◌∙◌}
+use Rattle.std.specs.Prelude.{◌+◌}
+use Rattle.rules.proofs.Common.{◌∙◌}
 use native.Mathlib.Omega.{arith}
 use Rattle.model.proofs.Layer.{short, headed_step}
 use Rattle.model.proofs.Cursor.layer.Goals as goal

@@ -1,5 +1,6 @@
 -- Each table in turn. Assumes nothing.
-use Rattle.rules.proofs.Common.{◌+◌, sym, ◌∙◌}
+use Rattle.std.specs.Prelude.{◌+◌}
+use Rattle.rules.proofs.Common.{sym, ◌∙◌}
 use Rattle.rules.specs.Lists.{sum}
 use Rattle.model.proofs.Accepted.{bad_rows, clear_rows, bad_model, good_model, few_given}
 use Rattle.model.proofs.writer.fault_of.Goals as goal

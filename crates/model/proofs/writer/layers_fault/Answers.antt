@@ -1,5 +1,6 @@
 -- The loop's invariant: the layers still to come decide. Assumes nothing.
-use Rattle.rules.proofs.Common.{◌≡◌, sym, ◌∙◌}
+use Rattle.std.specs.Prelude.{◌≡◌}
+use Rattle.rules.proofs.Common.{sym, ◌∙◌}
 use native.Mathlib.Omega.{arith}
 use borrow.Author.Rules.{rules}
 use Rattle.model.proofs.Given.{stopped, on, fault_small, none_behind}

@@ -1,5 +1,5 @@
 -- The loop's invariant: the layers still to come decide. Assumes nothing.
-use Rattle.rules.proofs.Common.{◌-◌, ◌≤◌, ◌≡◌}
+use Rattle.std.specs.Prelude.{◌-◌, ◌≤◌, ◌≡◌}
 use Rattle.model.specs.Private.{fault_in}
 use Rattle.model.proofs.Given.{rows_from}
 use Rattle.model.proofs.writer.layers_fault.Given as goal

@@ -1,5 +1,6 @@
 -- The loop's invariant: so many bytes are in the buffer. Assumes nothing.
-use Rattle.rules.proofs.Common.{◌≡◌, refl, ◌∙◌, length, length-set}
+use Rattle.std.specs.Prelude.{◌≡◌}
+use Rattle.rules.proofs.Common.{refl, ◌∙◌, length, length-set}
 use native.Mathlib.Numerals.{add-one}
 use native.Mathlib.Omega.{arith}
 use lib.Seq.{paste-zero, paste-suc}

@@ -1,5 +1,6 @@
 -- The loop's invariant: so many bytes are in the buffer. Assumes nothing.
-use Rattle.rules.proofs.Common.{◌-◌, ◌≤◌, ◌≡◌, length}
+use Rattle.std.specs.Prelude.{◌-◌, ◌≤◌, ◌≡◌}
+use Rattle.rules.proofs.Common.{length}
 use lib.Seq.{paste}
 use Rattle.model.proofs.writer.put.Given as goal
 

@@ -1,5 +1,5 @@
 -- Three layers, one behind the other. Assumes nothing.
-use Rattle.rules.proofs.Common.{◌+◌, ◌++◌}
+use Rattle.std.specs.Prelude.{◌+◌, ◌++◌}
 use native.Mathlib.Omega.{arith}
 use Rattle.model.specs.Private.{layer_bytes, three_bytes}
 use Rattle.model.proofs.Over.{front, behind, both}

@@ -1,5 +1,6 @@
 -- The loop's invariant: what is left, with the lengths passed, is the buffer. Assumes nothing.
-use Rattle.rules.proofs.Common.{◌+◌, sym}
+use Rattle.std.specs.Prelude.{◌+◌}
+use Rattle.rules.proofs.Common.{sym}
 use native.Mathlib.Omega.{arith}
 use borrow.Author.Rules.{rules}
 use borrow.Author.Tests.{lt-ltb, le-ltb}

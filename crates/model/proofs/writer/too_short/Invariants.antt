@@ -1,5 +1,6 @@
 -- The loop's invariant: what is left, with the lengths passed, is the buffer. Assumes nothing.
-use Rattle.rules.proofs.Common.{◌+◌, ◌-◌, ◌≤◌, ◌≡◌, take}
+use Rattle.std.specs.Prelude.{◌+◌, ◌-◌, ◌≤◌, ◌≡◌}
+use Rattle.rules.proofs.Common.{take}
 use Rattle.rules.specs.Lists.{sum}
 use Rattle.model.proofs.writer.too_short.Given as goal
 
