@@ -11,7 +11,8 @@ trap 'rm -f "$list"' EXIT
 export LC_ALL=C.UTF-8
 find crates host oracle bindings tools .ci -type f \
     \( -name '*.rt' -o -name '*.antt' -o -name '*.edit' -o -name '*.rs' -o -name '*.sh' -o -name '*.py' -o -name '*.c' \
-    -o -name '*.h' -o -name '*.js' -o -name '*.css' -o -path '.ci/run' \) -not -path '*/target/*' -not -path 'crates/*/out/*' -print0 |
+    -o -name '*.h' -o -name '*.js' -o -name '*.css' -o -path '.ci/run' \) \
+    -not -path '*/target/*' -not -path 'crates/*/out/*' -print0 |
     LC_ALL=C sort -z | xargs -0 grep -nHE '^.{121}' | grep -vE '^[^:]*\.edit:[0-9]*:(old|new):' |
     cut -d : -f 1,2 >"$list" || true
 lines=$(wc -l <"$list")

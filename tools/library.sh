@@ -29,7 +29,8 @@ kit_at_hand() {
 
 # Whether the archive is of what the crates hold.
 is_proved() {
-    [ -e $archive ] && [ -e $note ] && [ "$(sed -n 3p $note)" = "$(sum $archive)" ] && [ "$(sed -n 1p $note)" = "$held" ]
+    [ -e $archive ] && [ -e $note ] || return 1
+    [ "$(sed -n 3p $note)" = "$(sum $archive)" ] && [ "$(sed -n 1p $note)" = "$held" ]
 }
 
 # How many crates the library is made of: export_c, and all that it stands on.
@@ -78,6 +79,9 @@ command -v rt >/dev/null || {
 }
 echo "Proving the library, crate by crate: about half an hour in all on an idle machine where none is proved yet."
 mkdir -p target/staticlib
-(cd crates/export_c && rt lib 2>&1) | tee target/box.log | tell || { echo "not proved; target/box.log says why"; exit 1; }
+(cd crates/export_c && rt lib 2>&1) | tee target/box.log | tell || {
+    echo "not proved; target/box.log says why"
+    exit 1
+}
 cp crates/export_c/out/libexport_c.a $archive
 printf '%s\n' "$held" "$(kit_at_hand)" "$(sum $archive)" >$note

@@ -31,7 +31,8 @@ fn functions(file: &str, text: &str) -> Vec<Function> {
         let head: Vec<&str> = lines[at + 1..].iter().take_while(|line| **line != "{").copied().collect();
         let declared = head.join(" ");
         let named = declared.strip_prefix("pub extern \"C\" fn ").and_then(|rest| rest.split_once('('));
-        let (name, rest) = named.unwrap_or_else(|| stop(&format!("{file}: line {}: no function for C follows", at + 1)));
+        let none = || stop(&format!("{file}: line {}: no function for C follows", at + 1));
+        let (name, rest) = named.unwrap_or_else(none);
         let (inside, _) = rest.split_once(')').unwrap_or_else(|| stop(&format!("{file}: {name}: no parameters")));
         let parameters = inside.split(',').filter_map(|one| Some(one.split_once(':')?.0.trim().to_string()));
         Function { name: name.into(), parameters: parameters.collect(), head: head.join("\n") }
@@ -48,7 +49,8 @@ fn words(functions: &[Function]) -> BTreeSet<&str> {
 
 /// Whether a name of a `ghost use`, which may be an operator with places for its operands, is among the words.
 fn cites(words: &BTreeSet<&str>, name: &str) -> bool {
-    let named = |part: &str| words.iter().any(|word| *word == part || word.split_once('.').is_some_and(|w| w.0 == part));
+    let is = |word: &str, part: &str| word == part || word.split_once('.').is_some_and(|(front, _)| front == part);
+    let named = |part: &str| words.iter().any(|word| is(word, part));
     name.split('◌').filter(|part| !part.is_empty()).all(named)
 }
 
@@ -83,7 +85,7 @@ fn main() {
     let modules: Vec<&str> =
         lib.lines().filter_map(|line| line.strip_prefix("pub mod ")?.strip_suffix(';')).collect();
     let mut head = String::from(
-        "// The static library for Rust and C: the functions of `export` under the same names and with the same contracts.\n\
+        "// The static library for Rust and C: the functions of `export`, with the same names and contracts.\n\
          // tools/make_export_c.sh makes this crate's source.\n#![tactic(auto)]\n\n",
     );
     head.extend(modules.iter().map(|name| format!("pub mod {name};\n")));

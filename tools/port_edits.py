@@ -22,16 +22,20 @@ def snake(name):
 
 
 words = set()
-for p in glob.glob(os.path.join(ROOT, "crates/*/specs/**/*.antt"), recursive=True) + glob.glob(os.path.join(ROOT, "crates/*/src/**/*.rt"), recursive=True):
+KINDS = "crates/*/specs/**/*.antt", "crates/*/src/**/*.rt"
+for p in [p for kind in KINDS for p in glob.glob(os.path.join(ROOT, kind), recursive=True)]:
     words.update(re.findall(r"[a-z][\w']*", read(p)))
 
 
 def spelled(text):
-    text = TOKEN.sub(lambda m: snake(m.group(0)) if snake(m.group(0)) in words and not re.search(r"\d-\d", m.group(0)) else m.group(0), text)
+    is_turned = lambda name: snake(name) in words and not re.search(r"\d-\d", name)
+    text = TOKEN.sub(lambda m: snake(m.group(0)) if is_turned(m.group(0)) else m.group(0), text)
     text = re.sub(r"(?<=[\w)'»]) \.(?=[a-z0-9«])", ".", text)
     text = re.sub(r"Rattle·(\w+)·(specs|proofs)\.\2\.", r"Rattle.\1.\2.", text)
     text = re.sub(r"Rattle·(\w+)\.", r"Rattle.\1.", text)
-    text = re.sub(r"\{([^{}]*)\}", lambda m: "{" + re.sub(r"(?<![\w◌])_([^\s\w,]+)_(?!\w)", r"◌\1◌", m.group(1)) + "}", text) if "use " in text else text
+    if "use " in text:
+        holed = lambda m: "{" + re.sub(r"(?<![\w◌])_([^\s\w,]+)_(?!\w)", r"◌\1◌", m.group(1)) + "}"
+        text = re.sub(r"\{([^{}]*)\}", holed, text)
     text = text.replace("getD", "get_or")
     text = text.replace("λ r. ⌜ ", "").replace("λ _. ⌜ ", "").replace("⌜ ", "").replace(" ⌝", "")
     text = re.sub(r"now \((\w+)\.exit\)", r"\1.new", text)
@@ -65,7 +69,8 @@ for path in sorted(glob.glob(os.path.join(ROOT, "crates/*/must-fail/*.edit"))):
             as_tight, as_holes = turned and turned[0] in (tight, holes), turned and turned[0] == holes
             if not turned:
                 bad += 1
-                print(f"{os.path.relpath(path, ROOT)}: {target}: {held[target].count(spelled(text))} times: {spelled(text)}")
+                times = held[target].count(spelled(text))
+                print(f"{os.path.relpath(path, ROOT)}: {target}: {times} times: {spelled(text)}")
             old = turned[0] if turned else spelled(text)
             out.append("old: " + old)
         else:

@@ -1,10 +1,12 @@
 #!/usr/bin/env python3
 """Brings the names of definitions, lemmas, fields and constructors to snake case, once, after the kit's port script.
 
-usage: tools/port_names.py [ROOT]        rewrites crates/**/*.antt, *.rt, *.edit and the names between backquotes in pages
+usage: tools/port_names.py [ROOT]
+It rewrites crates/**/*.antt, *.rt, *.edit and the names between backquotes in pages.
 
-A name is turned if some .antt file below crates/ declares it, and no module outside the repository has it. Functions of src/ keep their
-names. Where two names fall together, the lemma (with dashes) gets `_lem`. Prints each name that it leaves.
+A name is turned if some .antt file below crates/ declares it, and no module outside the repository has it. Functions of
+src/ keep their names. Where two names fall together, the lemma (with dashes) gets `_lem`. Prints each name that it
+leaves.
 """
 import collections
 import os
@@ -40,7 +42,10 @@ def code_of(line):
 
 
 def declared(text):
-    head = re.compile(r"\s*(?:(?:abbrev|pub|unfoldable|ruleset|let|cons)\s+)*([a-z][\w'₀-₉◌-]*(?:\s+[a-z][\w'₀-₉-]*)*)\s*:(?:\s|$)")
+    head = re.compile(
+        r"\s*(?:(?:abbrev|pub|unfoldable|ruleset|let|cons)\s+)*"
+        r"([a-z][\w'₀-₉◌-]*(?:\s+[a-z][\w'₀-₉-]*)*)\s*:(?:\s|$)"
+    )
     for line in text.split("\n"):
         m = head.match(code_of(line))
         if m:
@@ -139,7 +144,8 @@ def main():
         if new != text:
             with open(p, "w", encoding="utf-8") as f:
                 f.write(new)
-    pages = [os.path.join(ROOT, "docs", f) for f in os.listdir(os.path.join(ROOT, "docs")) if f.endswith(".md") and f != "PORT.md"]
+    docs = os.path.join(ROOT, "docs")
+    pages = [os.path.join(docs, f) for f in os.listdir(docs) if f.endswith(".md") and f != "PORT.md"]
     pages += [os.path.join(ROOT, f) for f in ("README.md", "CONTRIBUTING.md")]
     for p in pages:
         text = read(p)

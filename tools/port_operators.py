@@ -40,7 +40,8 @@ def turn(text, path):
     m = line.search(text)
     if m:
         have = [n.strip() for n in m.group(1).split(",")]
-        text = text[: m.start()] + "use Rattle.std.specs.Prelude.{" + ", ".join(have + [o for o in wanted if o not in have]) + "}" + text[m.end() :]
+        names = ", ".join(have + [o for o in wanted if o not in have])
+        text = text[: m.start()] + "use Rattle.std.specs.Prelude.{" + names + "}" + text[m.end() :]
         return text.replace("\0\n", "")
     at = re.search(r"(?m)^(?:(?:pub|unfoldable)\s+)*use\s|\0", text).start()
     text = text[:at] + "use Rattle.std.specs.Prelude.{" + ", ".join(wanted) + "}\n" + text[at:]

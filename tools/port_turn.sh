@@ -1,6 +1,8 @@
 #!/usr/bin/env bash
-# Turns the repository of before the port to today's spelling, as the port's first commits did it. docs/PORT.md says more.
-# usage: tools/port_turn.sh FOLDER        FOLDER is a checkout of the first commit that docs/PORT.md names, outside this one
+# Turns the repository of before the port to today's spelling, as the port's first commits did it. docs/PORT.md says
+# more.
+# usage: tools/port_turn.sh FOLDER
+# FOLDER is a checkout of the first commit that docs/PORT.md names, outside this one.
 set -euo pipefail
 here=$(cd "$(dirname "$0")" && pwd)
 cd "$1"

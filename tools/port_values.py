@@ -1,5 +1,6 @@
 #!/usr/bin/env python3
-"""Writes what a reference points to as today's contracts do, once, after tools/port_names.py: `x.old` and `x.new` of a `&mut`, `x.now` of a `&`.
+"""Writes what a reference points to as today's contracts do, once, after tools/port_names.py: `x.old` and `x.new` of a
+`&mut`, `x.now` of a `&`.
 
 usage: tools/port_values.py [ROOT]
 """
@@ -34,7 +35,8 @@ def turn(text, path):
             print(f"left: {path}: {m.group(0)}")
             return m.group(0)
 
-        parts.append(re.sub(r"\(λ x\. x\.now\) (?P<a>[\w«»]+)\.(?P<c>entry|exit)\b|(?P<b>[\w«»]+)\.(?P<d>entry|exit)\.now\b", put, head))
+        of_arrow = r"\(λ x\. x\.now\) (?P<a>[\w«»]+)\.(?P<c>entry|exit)\b"
+        parts.append(re.sub(of_arrow + r"|(?P<b>[\w«»]+)\.(?P<d>entry|exit)\.now\b", put, head))
         last = end
     parts.append(text[last:])
     return "".join(parts)

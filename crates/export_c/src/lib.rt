@@ -1,4 +1,4 @@
-// The static library for Rust and C: the functions of `export` under the same names and with the same contracts.
+// The static library for Rust and C: the functions of `export`, with the same names and contracts.
 // tools/make_export_c.sh makes this crate's source.
 #![tactic(auto)]
 
