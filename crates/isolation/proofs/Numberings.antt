@@ -9,7 +9,7 @@ use borrow.Author.Tests.{ltb-true, ltb-false}
 use Rattle.frame.specs.Reply.{one_more}
 use Rattle.memory.specs.Calls.{FrameCall, one, two, three, four}
 use Rattle.memory.specs.Brought.{Noted, noting, unnoted, brought}
-use Rattle.memory.proofs.Kept.{Kept, kept}
+use Rattle.memory.proofs.Kept.{Kept, kept, keeping}
 use Rattle.isolation.specs.Run.{Kind, Made, expand, Expands}
 use Rattle.isolation.specs.Numbering.{calls_in, frames_ended, Numbering}
 use Rattle.isolation.proofs.Moved.{kept_at, run, fresh}
@@ -27,20 +27,20 @@ kept_frame : (k : Kept) (cs : List FrameCall) (a : ℕ) → k.frame ≡ a % 4294
 unfolding kept frames_ended
 kept_frame k [] a e = e ∙ omega arith
 kept_frame k (one ∷ cs) a e = kept_frame k cs a e
-kept_frame k (two x lag ∷ cs) a e = kept_frame _ cs a e
-kept_frame k (three true x logs m ∷ cs) a e = kept_frame _ cs a e
+kept_frame k (two x lag ∷ cs) a e = kept_frame (keeping k (two x lag)) cs a e
+kept_frame k (three true x logs m ∷ cs) a e = kept_frame (keeping k (three true x logs m)) cs a e
 kept_frame k (three false x logs m ∷ cs) a e = kept_frame k cs a e
-kept_frame k (four ∷ cs) a e = kept_frame _ cs (a + 1) (next a k.frame e) ∙ omega arith
+kept_frame k (four ∷ cs) a e = kept_frame (keeping k four) cs (a + 1) (next a k.frame e) ∙ omega arith
 
 kept_heard : (k : Kept) (n : Noted) (cs : List FrameCall) (a : ℕ) → k.heard ≡ a % 4294967296
     → (kept k cs).heard ≡ (a + length (brought n cs)) % 4294967296
 unfolding kept brought
 kept_heard k n [] a e = e ∙ omega arith
 kept_heard k n (one ∷ cs) a e = kept_heard k n cs a e
-kept_heard k n (two x lag ∷ cs) a e = kept_heard _ (noting x lag) cs a e
-kept_heard k n (three true x logs m ∷ cs) a e = kept_heard _ n cs (a + 1) (next a k.heard e) ∙ omega arith
+kept_heard k n (two x lag ∷ cs) a e = kept_heard (keeping k (two x lag)) (noting x lag) cs a e
+kept_heard k n (three true x logs m ∷ cs) a e = kept_heard (keeping k (three true x logs m)) n cs (a + 1) (next a k.heard e) ∙ omega arith
 kept_heard k n (three false x logs m ∷ cs) a e = kept_heard k n cs a e
-kept_heard k n (four ∷ cs) a e = kept_heard _ n cs a e
+kept_heard k n (four ∷ cs) a e = kept_heard (keeping k four) n cs a e
 
 pub numbering : {C : Type 0} (serve : Kind C) (asksOf : Made C) (n : ℕ) (expanded : Expands serve asksOf n)
     → Numbering serve asksOf n

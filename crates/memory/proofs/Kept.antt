@@ -54,10 +54,10 @@ pub kept_recalled : (k : Kept) (cs : List FrameCall)
 unfolding kept brought heard_all
 kept_recalled k [] = refl
 kept_recalled k (one ∷ cs) = kept_recalled k cs
-kept_recalled k (two x lag ∷ cs) = kept_recalled _ cs
-kept_recalled k (three true x logs m ∷ cs) = kept_recalled _ cs
+kept_recalled k (two x lag ∷ cs) = kept_recalled (keeping k (two x lag)) cs
+kept_recalled k (three true x logs m ∷ cs) = kept_recalled (keeping k (three true x logs m)) cs
 kept_recalled k (three false x logs m ∷ cs) = kept_recalled k cs
-kept_recalled k (four ∷ cs) = kept_recalled _ cs
+kept_recalled k (four ∷ cs) = kept_recalled (keeping k four) cs
 
 pub same_count : (k k' : Noted) (cs : List FrameCall) → length (brought k cs) ≡ length (brought k' cs)
 unfolding brought
