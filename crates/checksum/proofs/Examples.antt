@@ -1,5 +1,6 @@
 -- Checksums by the definition, as computed lists. Assumes nothing.
-use Rattle.rules.proofs.Common.{[], ◌∷◌, map, ◌≡◌, refl}
+use Rattle.std.specs.Prelude.{◌∷◌, ◌≡◌}
+use Rattle.rules.proofs.Common.{[], map, refl}
 use Rattle.rules.specs.Loop.{loop}
 use Rattle.rules.specs.Tab.{tab}
 use Rattle.checksum.specs.Checksum.{table, crc, crc32}

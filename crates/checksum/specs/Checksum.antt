@@ -1,6 +1,7 @@
 -- CRC-32 as zip (APPNOTE 4.4.7) and PNG (annex D) define it: reflected, with the polynomial EDB88320, inverted at the
 -- start and at the end.
-use Rattle.rules.specs.Common.{ℕ, ◌/◌, ◌%◌, cond, List, [], ◌∷◌, eqb, get_or}
+use Rattle.std.specs.Prelude.{◌/◌, ◌%◌, ◌∷◌}
+use Rattle.rules.specs.Common.{ℕ, cond, List, [], eqb, get_or}
 use Rattle.std.specs.Int.Bits.{bit_xor}
 use Rattle.rules.specs.Loop.{loop}
 use Rattle.rules.specs.Tab.{tab}

@@ -1,5 +1,6 @@
 -- What is claimed of checksums. The proofs are in proofs/Parts.antt and proofs/Apart.antt.
-use Rattle.rules.specs.Common.{ℕ, ◌^◌, ◌≤◌, ◌<◌, List, ◌++◌, ◌≡◌, length}
+use Rattle.std.specs.Prelude.{◌^◌, ◌≤◌, ◌<◌, ◌++◌, ◌≡◌}
+use Rattle.rules.specs.Common.{ℕ, List, length}
 use Rattle.rules.specs.Lists.{Bytes}
 use Rattle.checksum.specs.Checksum.{crc32}
 

@@ -1,7 +1,8 @@
 -- Each answer of the calls on a recorder in numbers. Assumes nothing.
+use Rattle.std.specs.Prelude.{◌+◌, ◌-◌, ◌*◌, ◌/◌, ◌%◌, ◌≤◌, ◌<◌, ◌||◌, ◌∷◌, ◌≡◌}
 use Prim.Native.Nat.{min}
-use Rattle.rules.proofs.Common.{ℕ, ◌+◌, ◌-◌, ◌*◌, ◌/◌, ◌%◌, ◌≤◌, ◌<◌, Bool, true, false, cond, not, ◌||◌, List}
-use Rattle.rules.proofs.Common.{[], ◌∷◌, ◌≡◌, refl, sym, ap, ◌∙◌, eqb, ltb}
+use Rattle.rules.proofs.Common.{ℕ, Bool, true, false, cond, not, List}
+use Rattle.rules.proofs.Common.{[], refl, sym, ap, ◌∙◌, eqb, ltb}
 use Rattle.rules.proofs.Common.{length, take, drop, length-take, length-drop}
 use mathlib.Core.List.{append-nil}
 use native.Mathlib.Omega.{arith}
@@ -95,7 +96,8 @@ module _ (r : Recorder) (taken : ℕ) (cleaned : List ℕ) where
     pub part_whole : take (p.start + p.size - p.start) (drop p.start cleaned) ≡ belonging r taken cleaned
     part_whole = found ∙ part_is
 
-    pub part_places : p.start ∷ p.size ∷ [] ≡ start_of r (length cleaned) ∷ length (take (p.start + p.size - p.start) (drop p.start cleaned)) ∷ []
+    pub part_places : p.start ∷ p.size ∷ [] ≡ start_of r (length cleaned)
+        ∷ length (take (p.start + p.size - p.start) (drop p.start cleaned)) ∷ []
     part_places = rw (part_whole, part_size, e)
 
 pub part_long : (bytes : List ℕ) (i n : ℕ) → i + n ≤ length bytes → length (take (i + n - i) (drop i bytes)) ≡ n
@@ -120,7 +122,8 @@ module _ (r : Recorder) (taken : ℕ) (cleaned records : List ℕ) where
   pub tried_5' : (length cleaned % 960 ≡ 0 → ⊥) → 5 ≡ refusing (more_rows r taken cleaned records) (λ k. k) 0
   tried_5' h = rw (one_wrong lengths (λ ok. h (let e = ok.1.0 in omega arith)))
 
-  pub tried_5'' : (length cleaned / 960 ≡ length records / 8 → ⊥) → 5 ≡ refusing (more_rows r taken cleaned records) (λ k.
+  pub tried_5'' : (length cleaned / 960 ≡ length records / 8 → ⊥)
+      → 5 ≡ refusing (more_rows r taken cleaned records) (λ k.
       k) 0
   tried_5'' h = rw (one_wrong lengths (λ ok. h (let e = ok.1.0 in omega arith)))
 
@@ -233,7 +236,8 @@ module _ (ns out : List ℕ) where
     unfolding closing_laid
     closing_5' h = rw (eq-eqb (length out) 1 one, ne_eqb (length ns) 8 h)
 
-    pub closing_done : length ns ≡ 8 → {r : Recorder} → r ≡ recorder_in ns → {n : ℕ} → n ≡ closing_of r → {after : List ℕ}
+    pub closing_done : length ns ≡ 8 → {r : Recorder} → r ≡ recorder_in ns → {n : ℕ} → n ≡ closing_of r
+        → {after : List ℕ}
         → after ≡ n ∷ [] → (0 leaving after) ≡ closing_laid ns out
     unfolding closing_laid
     closing_done eight rs ms a = rw (eq-eqb (length out) 1 one, eq-eqb (length ns) 8 eight) (leaves (a ∙ rw (ms, rs)))
@@ -243,13 +247,15 @@ module _ (began : ℕ) (ns : List ℕ) where
   unfolding next_laid
   next_5 h = rw (ne_eqb (length ns) 8 h)
 
-  module _ (eight : length ns ≡ 8) {r : Recorder} (rs : r ≡ recorder_in ns) {n : ℕ} (tried : n ≡ refusing (next_rows r) (λ
+  module _ (eight : length ns ≡ 8) {r : Recorder} (rs : r ≡ recorder_in ns) {n : ℕ}
+      (tried : n ≡ refusing (next_rows r) (λ
       k. k) 0) where
     pub next_refused : (n ≡ 0 → ⊥) → (n leaving ns) ≡ next_laid began ns
     unfolding next_laid
     next_refused some = rw (eq-eqb (length ns) 8 eight, ← rs) (sym (due (λ k. k leaving ns) _ (next_rows r) tried some))
 
-    pub next_done : n ≡ 0 → {next : Recorder} {after : List ℕ} → next ≡ following r began → after ≡ recorder_numbers next
+    pub next_done : n ≡ 0 → {next : Recorder} {after : List ℕ} → next ≡ following r began
+        → after ≡ recorder_numbers next
         → (0 leaving after) ≡ next_laid began ns
     unfolding next_laid
     next_done none es a =
@@ -287,7 +293,8 @@ pub few_records : (r : Recorder) → r.size ≤ MOST → r.count ≡ frames_of r
 few_records r h e = omega (arith, few_frames r.front.first r.size h)
 
 module _ (ns head chunk trailer : List ℕ) where
-  pub finish_5 : (length ns ≡ 8 → ⊥) → (5 leaving head leaving chunk leaving trailer) ≡ finish_laid ns head chunk trailer
+  pub finish_5 : (length ns ≡ 8 → ⊥) → (5 leaving head leaving chunk leaving trailer)
+      ≡ finish_laid ns head chunk trailer
   unfolding finish_laid
   finish_5 h = rw (ne_eqb (length ns) 8 h)
 
@@ -304,7 +311,8 @@ module _ (ns head chunk trailer : List ℕ) where
       finish_5'' h = rw (eq-eqb (length ns) 8 eight, eq-eqb (length head) 76 seventy-six, ne_eqb (length chunk) 32 h)
 
       module _ (thirty_two : length chunk ≡ 32) where
-        pub finish_5''' : (length trailer ≡ 16 → ⊥) → (5 leaving head leaving chunk leaving trailer) ≡ finish_laid ns head
+        pub finish_5''' : (length trailer ≡ 16 → ⊥) → (5 leaving head leaving chunk leaving trailer)
+            ≡ finish_laid ns head
             chunk trailer
         unfolding finish_laid
         finish_5''' h = rw (
@@ -359,7 +367,8 @@ known Left = refl
 known Right = refl
 
 module _ (side : Side) (began first size : ℕ) (sized : is_size size ≡ true) (few : size ≤ MOST) where
-  pub head_laid_lem : (out : List ℕ) {number n : ℕ} {after : List ℕ} → number ≡ number_of side → length out ≡ 76 → (n leaving
+  pub head_laid_lem : (out : List ℕ) {number n : ℕ} {after : List ℕ} → number ≡ number_of side → length out ≡ 76
+      → (n leaving
       after) ≡ head_laid number began first size out
       → after ≡ head_for (record { side = side; began = began; first = first }) size
   unfolding head_laid
@@ -372,14 +381,17 @@ module _ (side : Side) (began first size : ℕ) (sized : is_size size ≡ true) 
         meant side,
       ) at h)
 
-  pub chunk_laid_lem : (crc : ℕ) (out : List ℕ) {number n : ℕ} {after : List ℕ} → number ≡ number_of side → length out ≡ 32 →
+  pub chunk_laid_lem : (crc : ℕ) (out : List ℕ) {number n : ℕ} {after : List ℕ} → number ≡ number_of side
+      → length out ≡ 32 →
       (n leaving after) ≡ chunk_laid number first size crc out
       → after ≡ chunk_for (record { side = side; began = began; first = first }) size crc
   unfolding chunk_laid chunk_for
-  chunk_laid_lem crc out e room h = ap (λ (p : ℕ × List ℕ). p.1) (rw (e, eq-eqb (length out) 32 room, sized, meant side) at
+  chunk_laid_lem crc out e room h = ap (λ (p : ℕ × List ℕ). p.1)
+      (rw (e, eq-eqb (length out) 32 room, sized, meant side) at
       h)
 
-pub trailer_laid_lem : (side : Side) (count total : ℕ) (out : List ℕ) {number n : ℕ} {after : List ℕ} → number ≡ number_of
+pub trailer_laid_lem : (side : Side) (count total : ℕ) (out : List ℕ) {number n : ℕ} {after : List ℕ}
+    → number ≡ number_of
     side → length out ≡ 16 → count ≤ 536870911
     → (n leaving after) ≡ trailer_laid number count total out → after ≡ trailer_of count (number_of side) total
 unfolding trailer_laid

@@ -1,5 +1,6 @@
 -- A bench that goes on in a next recording: its audio goes on. Assumes nothing.
-use Rattle.rules.proofs.Common.{ℕ, ◌+◌, ◌-◌, ◌*◌, ◌%◌, ◌≤◌, List, [], ◌∷◌, ◌++◌, ◌≡◌, refl, sym, ap, ap₂, ◌∙◌}
+use Rattle.std.specs.Prelude.{◌+◌, ◌-◌, ◌*◌, ◌%◌, ◌≤◌, ◌∷◌, ◌++◌, ◌≡◌}
+use Rattle.rules.proofs.Common.{ℕ, List, [], refl, sym, ap, ap₂, ◌∙◌}
 use Rattle.rules.proofs.Common.{length, length-take}
 use mathlib.Core.List.{append_assoc}
 use native.Mathlib.Omega.{arith}
@@ -49,7 +50,8 @@ same_audio (g ∷ gs) r q d a =
     ap₂ ◌++◌ (same_part r q d a g.taken g.cleaned g.records)
     (same_audio gs _ _ _ (same_next r q d a g.taken g.cleaned g.records))
 
-pub audio_append : (gs gs' : List Given) (r : Recorder) → audio_of r (gs ++ gs') ≡ audio_of r gs ++ audio_of (after r gs)
+pub audio_append : (gs gs' : List Given) (r : Recorder) → audio_of r (gs ++ gs') ≡ audio_of r gs
+    ++ audio_of (after r gs)
     gs'
 audio_append [] gs' r = refl
 audio_append (g ∷ gs) gs' r =

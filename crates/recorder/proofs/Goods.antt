@@ -1,6 +1,7 @@
 -- What is written by calls that are accepted is a good recording. Assumes nothing.
-use Rattle.rules.proofs.Common.{ℕ, zero, suc, ◌+◌, ◌*◌, ◌/◌, ◌%◌, ◌^◌, ◌≤◌, ◌<◌, Bool, true, false, cond, not}
-use Rattle.rules.proofs.Common.{List, [], ◌∷◌, ◌++◌, ◌≡◌, refl}
+use Rattle.std.specs.Prelude.{◌+◌, ◌*◌, ◌/◌, ◌%◌, ◌^◌, ◌≤◌, ◌<◌, ◌∷◌, ◌++◌, ◌≡◌}
+use Rattle.rules.proofs.Common.{ℕ, zero, suc, Bool, true, false, cond, not}
+use Rattle.rules.proofs.Common.{List, [], refl}
 use Rattle.rules.proofs.Common.{sym, ap, ap₂, subst, ◌∙◌, eqb, ltb, length, get_or, take, drop, length-append}
 use Rattle.rules.proofs.Common.{length-drop}
 use mathlib.Core.List.{append_assoc, append-nil}
@@ -171,11 +172,13 @@ module _ (f : Front) (small : f.first < 2 ^ 32) where
       part_bytes = take_bytes (room_of r g.taken) (drop (skip_of r) g.cleaned) (drop_bytes (skip_of r) g.cleaned
           clean)
 
-      all_are : records ++ g.records ≡ records_of (number_of f.side) (entries_from f.first (heard ++ heard_in n g.records))
+      all_are : records ++ g.records ≡ records_of (number_of f.side)
+          (entries_from f.first (heard ++ heard_in n g.records))
       all_are =
           let side = number_of f.side in
           ap₂ ◌++◌ so.are ours
-          ∙ sym (records_append side (entries_from f.first heard) (entries_from (f.first + length heard) (heard_in n g.records)))
+          ∙ sym (records_append side (entries_from f.first heard)
+          (entries_from (f.first + length heard) (heard_in n g.records)))
           ∙ ap (records_of side) (sym (entries_append f.first heard (heard_in n g.records)))
 
       next : So f (with_feed r g.taken g.cleaned g.records) (audio ++ part) (records ++ g.records) (heard ++
@@ -198,7 +201,8 @@ module _ (f : Front) (small : f.first < 2 ^ 32) where
     module _ (g : Given) (ns lent ns' place : List ℕ) (held : ns ≡ recorder_numbers r)
         (e : (0 leaving ns' leaving place) ≡ more_laid g.taken g.cleaned g.records ns lent) where
       abbrev table : List Row
-      table = 5 when wrong ((length (recorder_numbers r), 8) ∷ (length lent, 2) ∷ []) ∷ more_rows r g.taken g.cleaned g.records
+      table = 5 when wrong ((length (recorder_numbers r), 8) ∷ (length lent, 2) ∷ [])
+          ∷ more_rows r g.taken g.cleaned g.records
 
       abbrev done : ℕ × (List ℕ × List ℕ)
       done =
@@ -222,7 +226,8 @@ module _ (f : Front) (small : f.first < 2 ^ 32) where
 
       written_is : take (get_or place 1 0) (drop (get_or place 0 0) g.cleaned) ≡ belonging r g.taken g.cleaned
       written_is =
-          rw (ap (λ (p : ℕ × (List ℕ × List ℕ)). p.1.1) got, part_size r g.taken g.cleaned) (part_is r g.taken g.cleaned)
+          rw (ap (λ (p : ℕ × (List ℕ × List ℕ)). p.1.1) got, part_size r g.taken g.cleaned)
+          (part_is r g.taken g.cleaned)
 
   -- ---- calls in a row
 
@@ -253,7 +258,8 @@ module _ (f : Front) (small : f.first < 2 ^ 32) where
 
   -- ---- the end
 
-  module _ (q : Recorder) (audio records : List ℕ) (heard : List Bool) (so : So f q audio records heard) (time : f.began < 2 ^ 64)
+  module _ (q : Recorder) (audio records : List ℕ) (heard : List Bool) (so : So f q audio records heard)
+      (time : f.began < 2 ^ 64)
       (head chunk trailer h c t : List ℕ) (e : (0 leaving head leaving chunk leaving trailer) ≡ finish_laid
       (recorder_numbers q) h c t) where
     abbrev end_table : List Row
@@ -261,7 +267,8 @@ module _ (f : Front) (small : f.first < 2 ^ 32) where
 
     abbrev closed : ℕ × (List ℕ × (List ℕ × List ℕ))
     closed =
-        0 leaving head_for q.front q.size leaving chunk_for q.front q.size q.crc leaving trailer_of q.count (number_of q.front.side) q.sum
+        0 leaving head_for q.front q.size leaving chunk_for q.front q.size q.crc leaving trailer_of q.count
+        (number_of q.front.side) q.sum
 
     end_tabled : (0 leaving head leaving chunk leaving trailer) ≡ refusing end_table (λ k. k leaving h leaving c leaving
         t) closed
@@ -318,7 +325,8 @@ module _ (f : Front) (small : f.first < 2 ^ 32) where
           so.front,
           so.size,
         ) in
-        let cs : chunk ≡ chunk_for f (length audio) (crc32 0 audio) = ap (λ (p : ℕ × (List ℕ × (List ℕ × List ℕ))). p.1.1.0) laid ∙ rw (so.front, so.size, so.crc) in
+        let cs : chunk ≡ chunk_for f (length audio) (crc32 0 audio) = ap
+        (λ (p : ℕ × (List ℕ × (List ℕ × List ℕ))). p.1.1.0) laid ∙ rw (so.front, so.size, so.crc) in
         rw (hs, cs, trailer_is, so.are)
 
     heard_is : heard_in (length records / 8) records ≡ heard
@@ -371,7 +379,8 @@ always_good side began first gs audio records head chunk trailer time small byte
     let f : Front = record { side = side_at side; began = began; first = first } in
     let k = comes f small w.goes (beginning f) [] [] [] (begun f small) (begun_is began first w.lent w.numbers
     side w.begins) bytes in
-    is_good_file f small k.recorder audio records k.heard k.so time head chunk trailer w.lent_head w.lent_chunk w.lent_trailer
+    is_good_file f small k.recorder audio records k.heard k.so time head chunk trailer w.lent_head w.lent_chunk
+    w.lent_trailer
     (rw k.numbers at w.ends)
 
 -- ---- and it is what the definition says
@@ -384,7 +393,8 @@ as_given_lem f small (none ns) r audio records heard so held b = (refl, refl, tt
 as_given_lem f small (more g ns lent ns' place e rest) r audio records heard so held b =
     let clear_rows = rows_clear f small r audio records heard so g ns lent ns' place held e in
     let on = next f small r audio records heard so g b.0 b.1 clear_rows.1 in
-    let all = as_given_lem f small rest _ _ _ _ on (numbers_are f small r audio records heard so g ns lent ns' place held e)
+    let all = as_given_lem f small rest _ _ _ _ on (numbers_are f small r audio records heard so g ns lent ns' place
+    held e)
     b.2 in (
       ap₂ ◌++◌ (written_is f small r audio records heard so g ns lent ns' place held e) all.0,
       ap (λ (l : List ℕ). g.records ++ l) all.1,

@@ -1,6 +1,7 @@
 -- The audio of a recording does not depend on how the output is cut into calls. Assumes nothing.
+use Rattle.std.specs.Prelude.{◌+◌, ◌-◌, ◌*◌, ◌/◌, ◌≤◌, ◌<◌, ◌∷◌, ◌++◌, ◌≡◌}
 use mathlib.Core.Logic.{◌⊎◌, ⊎_elim}
-use Rattle.rules.proofs.Common.{ℕ, ◌+◌, ◌-◌, ◌*◌, ◌/◌, ◌≤◌, ◌<◌, Bool, true, false, cond, List, [], ◌∷◌, ◌++◌, ◌≡◌}
+use Rattle.rules.proofs.Common.{ℕ, Bool, true, false, cond, List, []}
 use Rattle.rules.proofs.Common.{refl}
 use Rattle.rules.proofs.Common.{sym, ap, ◌∙◌, eqb, ltb, length, take, drop, length-take, length-drop}
 use native.Mathlib.Omega.{arith}
@@ -64,7 +65,8 @@ module _ (r : Recorder) (taken : ℕ) (c records rest : List ℕ) (frames : leng
   module _ (T : ℕ) (small : r.size ≤ 2 * r.taken) where
     -- all of it finds room
     fits : length (drop (skip_of r) c) ≤ room_of r taken
-        → belonging r taken c ++ take (room_of (with_feed r taken c records) T) y ≡ take (room_of r (taken + T)) (x ++ y)
+        → belonging r taken c ++ take (room_of (with_feed r taken c records) T) y
+        ≡ take (room_of r (taken + T)) (x ++ y)
     unfolding belonging with_feed
     fits h =
         let all = take_all (room_of r taken) x h in
@@ -74,21 +76,25 @@ module _ (r : Recorder) (taken : ℕ) (c records rest : List ℕ) (frames : leng
 
     -- more came out than was taken in, and nothing more is taken in
     over : room_of r taken < length (drop (skip_of r) c) → T ≡ 0
-        → belonging r taken c ++ take (room_of (with_feed r taken c records) T) y ≡ take (room_of r (taken + T)) (x ++ y)
+        → belonging r taken c ++ take (room_of (with_feed r taken c records) T) y
+        ≡ take (room_of r (taken + T)) (x ++ y)
     unfolding belonging with_feed
     over h none =
         let long : length (take (room_of r taken) x) ≡ room_of r taken = simp length-take (omega arith) in
         let full : 2 * (r.taken + taken + T) - (r.size + length (take (room_of r taken) x)) ≡ 0 = omega (arith, long)
         in
         let room : room_of r (taken + T) ≡ room_of r taken = omega arith in
-        rw (full, room, append-nil (take (room_of r taken) x)) (sym (take-append-le (room_of r taken) x y (omega arith)))
+        rw (full, room, append-nil (take (room_of r taken) x))
+        (sym (take-append-le (room_of r taken) x y (omega arith)))
 
     either : (length (drop (skip_of r) c) ≤ room_of r taken) ⊎ (T ≡ 0)
-        → belonging r taken c ++ take (room_of (with_feed r taken c records) T) y ≡ take (room_of r (taken + T)) (x ++ y)
+        → belonging r taken c ++ take (room_of (with_feed r taken c records) T) y
+        ≡ take (room_of r (taken + T)) (x ++ y)
     either = ⊎_elim fits (λ none. go none (ltb (room_of r taken) (length x)) refl)
       where
         go : T ≡ 0 → (t : Bool) → ltb (room_of r taken) (length x) ≡ t
-            → belonging r taken c ++ take (room_of (with_feed r taken c records) T) y ≡ take (room_of r (taken + T)) (x ++
+            → belonging r taken c ++ take (room_of (with_feed r taken c records) T) y
+            ≡ take (room_of r (taken + T)) (x ++
             y)
         go none true e = over (ltb-true (room_of r taken) (length x) e) none
         go none false e = fits (ltb-false (room_of r taken) (length x) e)

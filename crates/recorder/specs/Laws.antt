@@ -1,6 +1,6 @@
 -- What is claimed of a recorder. The proofs are in proofs/: Goods, GoesOn, Whole.
-use Rattle.std.specs.Prelude.{◌⊎◌}
-use Rattle.rules.specs.Common.{ℕ, ◌+◌, ◌*◌, ◌/◌, ◌^◌, ◌≤◌, ◌<◌, List, [], ◌∷◌, ◌++◌, ◌≡◌, length, get_or, take}
+use Rattle.std.specs.Prelude.{◌⊎◌, ◌+◌, ◌*◌, ◌/◌, ◌^◌, ◌≤◌, ◌<◌, ◌∷◌, ◌++◌, ◌≡◌}
+use Rattle.rules.specs.Common.{ℕ, List, [], length, get_or, take}
 use Rattle.rules.specs.Common.{drop}
 use Rattle.rules.specs.Leaf.{◌leaving◌}
 use Rattle.rules.specs.Lists.{Bytes}
@@ -56,7 +56,11 @@ pub record WrittenWhole (side began first : ℕ) (gs : List Given) (audio record
 
 -- the recording with this front, this audio and these records
 abbrev pub recording_of : Front → List ℕ → List ℕ → Recording
-recording_of front audio records = record { front = front; audio = audio; heard = heard_in (length records / 8) records }
+recording_of front audio records = record {
+  front = front;
+  audio = audio;
+  heard = heard_in (length records / 8) records;
+}
 
 -- a file is the good recording with this front, this audio and these records, and so it is told
 pub record IsGood (front : Front) (audio records file : List ℕ) : Type 0 where

@@ -1,5 +1,6 @@
 -- A recorder in numbers, as a host holds it: eight of them. What is returned, and what the buffers then hold.
-use Rattle.rules.specs.Common.{ℕ, not, List, [], ◌∷◌, eqb, length, get_or}
+use Rattle.std.specs.Prelude.{◌∷◌}
+use Rattle.rules.specs.Common.{ℕ, not, List, [], eqb, length, get_or}
 use Rattle.rules.specs.Leaf.{◌leaving◌}
 use Rattle.rules.specs.Refusals.{◌when◌, refusing, wrong}
 use Rattle.sides.specs.Sides.{number_of, of_number}
@@ -46,10 +47,10 @@ begun_laid side began first ns = refusing (5 when not (eqb (length ns) 8) ∷ []
 unfoldable pub more_laid : ℕ → List ℕ → List ℕ → List ℕ → List ℕ → ℕ × (List ℕ × List ℕ)
 more_laid taken cleaned records ns out =
     let r = recorder_in ns in
-    refusing (5 when wrong ((length ns, 8) ∷ (length out, 2) ∷ []) ∷ more_rows r taken cleaned records) (λ n. n leaving
-    ns leaving out)
-    (0 leaving recorder_numbers (with_feed r taken cleaned records) leaving start_of r (length cleaned) ∷ length (belonging
-    r taken cleaned) ∷ [])
+    refusing (5 when wrong ((length ns, 8) ∷ (length out, 2) ∷ []) ∷ more_rows r taken cleaned records)
+    (λ n. n leaving ns leaving out)
+    (0 leaving recorder_numbers (with_feed r taken cleaned records)
+    leaving start_of r (length cleaned) ∷ length (belonging r taken cleaned) ∷ [])
 
 -- ---- the end
 

@@ -1,5 +1,6 @@
 -- What the private functions promise and ask for.
-use Rattle.rules.specs.Common.{ℕ, ◌+◌, ◌-◌, ◌/◌, ◌%◌, ◌^◌, min, ◌≤◌, ◌<◌, true, List, ◌≡◌, length}
+use Rattle.std.specs.Prelude.{◌+◌, ◌-◌, ◌/◌, ◌%◌, ◌^◌, ◌≤◌, ◌<◌, ◌≡◌}
+use Rattle.rules.specs.Common.{ℕ, min, true, List, length}
 use Rattle.rules.specs.Lists.{sum}
 use Rattle.checksum.specs.Checksum.{crc32}
 use Rattle.recording.specs.Verdict.{is_size}

@@ -1,8 +1,9 @@
 -- A recording while it is being made. A bench gives bytes and records, feed by feed. The recorder says which of these
 -- bytes belong to the recording, and carries the
 -- numbers on that its seal and its trailer say at the end.
-use Rattle.rules.specs.Common.{ℕ, zero, suc, ◌+◌, ◌-◌, ◌*◌, ◌/◌, ◌%◌, min, Bool, true, cond, not, ◌&&◌, ◌||◌, List, []}
-use Rattle.rules.specs.Common.{◌∷◌, ◌++◌, eqb, ltb, length, take, drop}
+use Rattle.std.specs.Prelude.{◌+◌, ◌-◌, ◌*◌, ◌/◌, ◌%◌, ◌&&◌, ◌||◌, ◌∷◌, ◌++◌}
+use Rattle.rules.specs.Common.{ℕ, zero, suc, min, Bool, true, cond, not, List, []}
+use Rattle.rules.specs.Common.{eqb, ltb, length, take, drop}
 use Rattle.rules.specs.Lists.{sum}
 use Rattle.rules.specs.Refusals.{Row, ◌when◌, wrong}
 use Rattle.checksum.specs.Checksum.{crc32}

@@ -1,6 +1,7 @@
 -- A recording that is cut at a frame is two. Assumes nothing.
-use Rattle.rules.proofs.Common.{ℕ, suc, ◌+◌, ◌-◌, ◌*◌, ◌/◌, ◌%◌, ◌^◌, ◌≤◌, ◌<◌, Bool, cond, List, [], ◌∷◌}
-use Rattle.rules.proofs.Common.{◌++◌, ◌≡◌, refl, sym, ap, ◌∙◌, eqb, length}
+use Rattle.std.specs.Prelude.{◌+◌, ◌-◌, ◌*◌, ◌/◌, ◌%◌, ◌^◌, ◌≤◌, ◌<◌, ◌∷◌, ◌++◌, ◌≡◌}
+use Rattle.rules.proofs.Common.{ℕ, suc, Bool, cond, List, []}
+use Rattle.rules.proofs.Common.{refl, sym, ap, ◌∙◌, eqb, length}
 use Rattle.rules.proofs.Common.{take, drop, length-take, length-drop}
 use native.Mathlib.Nat.{add-zero}
 use native.Mathlib.Omega.{arith}
@@ -40,7 +41,8 @@ records_cut side i n hs h =
     entries_alike ((i + n) % 4294967296) (i + length (take n hs)) (drop n hs) (rw long (omega arith)) in
     ap (λ (l : List ℕ). records_of side (entries_from i (take n hs)) ++ records_of side l) same
     ∙ sym (records_append side (entries_from i (take n hs)) (entries_from (i + length (take n hs)) (drop n hs)))
-    ∙ ap (records_of side) (sym (entries_append i (take n hs) (drop n hs)) ∙ ap (entries_from i) (take-append-drop n hs))
+    ∙ ap (records_of side) (sym (entries_append i (take n hs) (drop n hs))
+    ∙ ap (entries_from i) (take-append-drop n hs))
 
 -- ---- both parts
 

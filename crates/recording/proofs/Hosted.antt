@@ -1,5 +1,6 @@
 -- What a host is told by its calls is what the file is. Assumes nothing.
-use Rattle.rules.proofs.Common.{ℕ, Bool, true, false, cond, not, ◌&&◌, List, [], ◌∷◌, ◌≡◌, refl, sym, ap, ◌∙◌, subst}
+use Rattle.std.specs.Prelude.{◌&&◌, ◌∷◌, ◌≡◌}
+use Rattle.rules.proofs.Common.{ℕ, Bool, true, false, cond, not, List, [], refl, sym, ap, ◌∙◌, subst}
 use Rattle.rules.proofs.Common.{ltb, length, drop}
 use native.Mathlib.Omega.{arith}
 use borrow.Author.Tests.{eq-eqb}
@@ -93,7 +94,8 @@ not_zero file e =
     (ltb 16 (length (trailer_in file)))
     r.front (frames_in file) (how_many r.heard) e
 
-by_verdict : (file out told : List ℕ) (v : Verdict) → Bytes file → verdict_of file ≡ v → (0 leaving told) ≡ told_in v out
+by_verdict : (file out told : List ℕ) (v : Verdict) → Bytes file → verdict_of file ≡ v
+    → (0 leaving told) ≡ told_in v out
     → Accepted file told (said_by file)
 by_verdict file out told (Told f n h) b e a =
     let is = told_only file f n h b (sym e) in

@@ -1,5 +1,6 @@
 -- For the contracts of private functions.
-use Rattle.rules.specs.Common.{ℕ, suc, ◌+◌, ◌%◌, ◌<◌, Bool, false, cond, List, [], ◌∷◌, ◌++◌, ◌≡◌, take, drop, set}
+use Rattle.std.specs.Prelude.{◌+◌, ◌%◌, ◌<◌, ◌∷◌, ◌++◌, ◌≡◌}
+use Rattle.rules.specs.Common.{ℕ, suc, Bool, false, cond, List, [], take, drop, set}
 use Rattle.rules.specs.Common.{replicate}
 use Rattle.rules.specs.Lists.{sum}
 use Rattle.sheet.specs.Sheet.{four}

@@ -1,7 +1,8 @@
 -- What reads is written: the bytes before it, and behind them what is written for the sheet that was read.
 -- Assumes nothing.
-use Rattle.rules.proofs.Common.{ℕ, zero, suc, ◌+◌, ◌-◌, ◌*◌, ◌%◌, ◌≤◌, ◌<◌, Bool, true, false, cond, not, List, [], ◌∷◌}
-use Rattle.rules.proofs.Common.{◌++◌, ◌≡◌, refl, sym, ap}
+use Rattle.std.specs.Prelude.{◌+◌, ◌-◌, ◌*◌, ◌%◌, ◌≤◌, ◌<◌, ◌∷◌, ◌++◌, ◌≡◌}
+use Rattle.rules.proofs.Common.{ℕ, zero, suc, Bool, true, false, cond, not, List, []}
+use Rattle.rules.proofs.Common.{refl, sym, ap}
 use Rattle.rules.proofs.Common.{◌∙◌, eqb, ltb, length, get_or, take, drop, length-drop}
 use native.Mathlib.Nat.{add-zero}
 use native.Mathlib.Omega.{arith}
@@ -33,7 +34,8 @@ unfolding tab
 first_four s h = sym (tab_get_d s 0 4 0 h)
 
 first_eight : (s : List ℕ) → 8 ≤ length s
-    → take 8 s ≡ get_or s 0 0 ∷ get_or s 1 0 ∷ get_or s 2 0 ∷ get_or s 3 0 ∷ get_or s 4 0 ∷ get_or s 5 0 ∷ get_or s 6 0 ∷ get_or s 7 0
+    → take 8 s ≡ get_or s 0 0 ∷ get_or s 1 0 ∷ get_or s 2 0 ∷ get_or s 3 0 ∷ get_or s 4 0 ∷ get_or s 5 0 ∷ get_or s 6 0
+    ∷ get_or s 7 0
     ∷ []
 unfolding tab
 first_eight s h = sym (tab_get_d s 0 8 0 h)
@@ -41,7 +43,8 @@ first_eight s h = sym (tab_get_d s 0 8 0 h)
 four_back : (s : List ℕ) → 4 ≤ length s → Bytes s → four (from_four s) ≡ take 4 s
 unfolding from_four
 four_back s h b =
-    ap four (sym (add-zero _)) ∙ four_of_lem (get_or s 0 0) (get_or s 1 0) (get_or s 2 0) (get_or s 3 0) 0 (b 0) (b 1) (b 2) (b 3)
+    ap four (sym (add-zero _)) ∙ four_of_lem (get_or s 0 0) (get_or s 1 0) (get_or s 2 0) (get_or s 3 0) 0 (b 0) (b 1)
+    (b 2) (b 3)
     ∙ sym (first_four s h)
 
 from_small : (s : List ℕ) → Bytes s → from_four s < 4294967296
@@ -77,7 +80,8 @@ module _ (side : ℕ) (s : List ℕ) (g : good_record side s ≡ true) (b : Byte
 
   first_of : four (entry_of s) ≡ get_or s 0 0 ∷ get_or s 1 0 ∷ get_or s 2 0 ∷ get_or s 3 0 ∷ []
   unfolding entry_of from_four
-  first_of = four_of_lem (get_or s 0 0) (get_or s 1 0) (get_or s 2 0) (get_or s 3 0) (get_or s 4 0) (b 0) (b 1) (b 2) (b 3)
+  first_of = four_of_lem (get_or s 0 0) (get_or s 1 0) (get_or s 2 0) (get_or s 3 0) (get_or s 4 0) (b 0) (b 1) (b 2)
+      (b 3)
 
   pub record_back : 8 ≤ length s → record_bytes side (entry_of s) ≡ take 8 s
   unfolding record_bytes

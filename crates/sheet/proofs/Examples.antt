@@ -1,5 +1,6 @@
 -- Files read and mended by the definitions, as two computed lists. Assumes nothing.
-use Rattle.rules.proofs.Common.{ℕ, List, [], ◌∷◌, ◌++◌, map, ◌≡◌, refl, take, drop, set, replicate}
+use Rattle.std.specs.Prelude.{◌∷◌, ◌++◌, ◌≡◌}
+use Rattle.rules.proofs.Common.{ℕ, List, [], map, refl, take, drop, set, replicate}
 use Rattle.sheet.specs.Sheet.{four, record_bytes, trailer_of, sheet_bytes}
 use Rattle.sheet.specs.End.{from_four, three_zeros, good_record, run, entry_of, entries_of, trailer_distance, number}
 use Rattle.sheet.specs.End.{side_byte, padded, sum_noted, start, records, sheet_faults, end_of, read_sheet}
@@ -27,7 +28,8 @@ examples : map read_sheet
     ∷ set recording 26 2 ∷ set recording 15 0 ∷ set recording 2 45 ∷ set recording 0 0 ∷ [])
     ≡ Refused 31 ∷ Good 0 0 0 ∷ Good 2 2 1 ∷ Good 0 2 1 ∷ Refused 32 ∷ Refused 32 ∷ Refused 34 ∷ Refused 33 ∷ Refused 34
     ∷ Refused 35 ∷ Good 2 2 1 ∷ []
-unfolding record_bytes trailer_of four read_sheet end_of sheet_faults trailer_distance number side_byte padded three_zeros
+unfolding record_bytes trailer_of four read_sheet end_of sheet_faults trailer_distance number side_byte padded
+    three_zeros
     sum_noted start records from_four run good_record entries_of entry_of
 examples = refl
 
@@ -46,6 +48,7 @@ mendings : map shown (mended (take 33 recording) 2 ∷ mended (take 17 recording
     ∷ (1, take 18 recording ++ 8 ∷ 0 ∷ 0 ∷ 0 ∷ 1 ∷ 0 ∷ 0 ∷ 0 ∷ 1 ∷ 0 ∷ 0 ∷ 0 ∷ 48 ∷ 0 ∷ 0 ∷ 0 ∷ [])
     ∷ (1, replicate 8 0 ++ 8 ∷ 0 ∷ 0 ∷ 0 ∷ 1 ∷ 0 ∷ 0 ∷ 0 ∷ 0 ∷ 0 ∷ 0 ∷ 0 ∷ 0 ∷ 0 ∷ 0 ∷ 0 ∷ [])
     ∷ []
-unfolding record_bytes trailer_of four read_sheet end_of sheet_faults trailer_distance number side_byte padded three_zeros
+unfolding record_bytes trailer_of four read_sheet end_of sheet_faults trailer_distance number side_byte padded
+    three_zeros
     sum_noted start records from_four run good_record entries_of entry_of kept mended
 mendings = refl

@@ -1,5 +1,6 @@
 -- What stands at a place of some bytes, byte by byte. Assumes nothing.
-use Rattle.rules.proofs.Common.{ℕ, ◌+◌, ◌*◌, not, ◌&&◌, List, ◌≡◌, eqb, ltb, get_or, drop}
+use Rattle.std.specs.Prelude.{◌+◌, ◌*◌, ◌&&◌, ◌≡◌}
+use Rattle.rules.proofs.Common.{ℕ, not, List, eqb, ltb, get_or, drop}
 use native.Mathlib.Nat.{add-zero}
 use lib.Seq.{get_or-drop}
 use Rattle.sheet.specs.End.{from_four, three_zeros, good_record, entry_of}
@@ -21,6 +22,6 @@ module _ (s : List ℕ) (at : ℕ) where
   unfolding good_record
   good_at side = simp get_or-drop
 
-  pub entry_at : entry_of (drop at s) ≡ from_four (drop at s) + 4294967296 * get_or s (at + 4) 0
+  pub entry_at_lem : entry_of (drop at s) ≡ from_four (drop at s) + 4294967296 * get_or s (at + 4) 0
   unfolding entry_of
-  entry_at = simp get_or-drop
+  entry_at_lem = simp get_or-drop

@@ -1,5 +1,6 @@
 -- How the reader's two halves come together: refusals 31 to 33, and 34 and 35. Assumes nothing.
-use Rattle.rules.proofs.Common.{ℕ, zero, suc, ◌+◌, ◌-◌, ◌*◌, ◌%◌, ◌^◌, ◌≤◌, ◌<◌, true, false, List, [], ◌∷◌, ◌≡◌, refl}
+use Rattle.std.specs.Prelude.{◌+◌, ◌-◌, ◌*◌, ◌%◌, ◌^◌, ◌≤◌, ◌<◌, ◌∷◌, ◌≡◌}
+use Rattle.rules.proofs.Common.{ℕ, zero, suc, true, false, List, [], refl}
 use Rattle.rules.proofs.Common.{sym, ap, ◌∙◌, length, get_or}
 use Rattle.rules.proofs.Common.{take, drop, length-take, length-drop}
 use native.Mathlib.Omega.{arith}

@@ -1,5 +1,6 @@
 -- A sheet in parts: each answer of the call that lays records, and that parts in a row are the whole. Assumes nothing.
-use Rattle.rules.proofs.Common.{ℕ, ◌+◌, ◌*◌, ◌%◌, ◌≤◌, ◌<◌, true, false, List, [], ◌∷◌, ◌++◌, ◌≡◌, refl, sym, ap, ◌∙◌}
+use Rattle.std.specs.Prelude.{◌+◌, ◌*◌, ◌%◌, ◌≤◌, ◌<◌, ◌∷◌, ◌++◌, ◌≡◌}
+use Rattle.rules.proofs.Common.{ℕ, true, false, List, [], refl, sym, ap, ◌∙◌}
 use Rattle.rules.proofs.Common.{length, get_or, drop, set}
 use Rattle.rules.proofs.Common.{length-append}
 use mathlib.Core.List.{append_assoc}

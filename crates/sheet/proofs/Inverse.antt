@@ -1,6 +1,7 @@
 -- What is written reads: a sheet that fits, behind any bytes, reads as it was given and starts where they end.
 -- Assumes nothing.
-use Rattle.rules.proofs.Common.{ℕ, suc, ◌+◌, ◌-◌, ◌*◌, ◌%◌, ◌≤◌, true, List, [], ◌∷◌, ◌++◌, ◌≡◌, refl, sym, ap, ◌∙◌}
+use Rattle.std.specs.Prelude.{◌+◌, ◌-◌, ◌*◌, ◌%◌, ◌≤◌, ◌∷◌, ◌++◌, ◌≡◌}
+use Rattle.rules.proofs.Common.{ℕ, suc, true, List, [], refl, sym, ap, ◌∙◌}
 use Rattle.rules.proofs.Common.{length, get_or, take, drop}
 use Rattle.rules.proofs.Common.{length-append}
 use mathlib.Core.List.{append_assoc}

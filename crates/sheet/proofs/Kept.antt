@@ -1,5 +1,6 @@
 -- The run of good records that mending keeps: no longer one of one side stands in front (`no_longer`). Assumes nothing.
-use Rattle.rules.proofs.Common.{ℕ, zero, suc, ◌*◌, ◌/◌, ◌≤◌, ◌<◌, Bool, true, false, cond, List, ◌≡◌, refl, ap}
+use Rattle.std.specs.Prelude.{◌*◌, ◌/◌, ◌≤◌, ◌<◌, ◌≡◌}
+use Rattle.rules.proofs.Common.{ℕ, zero, suc, Bool, true, false, cond, List, refl, ap}
 use Rattle.rules.proofs.Common.{ltb, length, get_or, take, drop}
 use native.Mathlib.Omega.{arith}
 use borrow.Author.Tests.{lt-ltb, le-ltb, ltb-false}
@@ -74,7 +75,8 @@ module _ (s : List ℕ) where
   unfolding kept
   kept_known = of (ltb 1 (get_or s 5 0)) refl
     where
-      of : (t : Bool) → ltb 1 (get_or s 5 0) ≡ t → (cond t 0 (run (get_or s 5 0) (length s / 8) s) ≡ 0 → ⊥) → get_or s 5 0 ≤ 1
+      of : (t : Bool) → ltb 1 (get_or s 5 0) ≡ t → (cond t 0 (run (get_or s 5 0) (length s / 8) s) ≡ 0 → ⊥)
+          → get_or s 5 0 ≤ 1
       of true e h = absurd (h refl)
       of false e h = ltb-false 1 (get_or s 5 0) e
 

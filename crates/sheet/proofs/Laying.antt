@@ -74,7 +74,8 @@ closing out n side {t} {bytes} b s e =
     drop_of_length-le (drop (8 * n) out) {i = length out - 8 * n} (simp length-drop (omega arith)) in
     rw (none, append-nil bytes, b, s)
 
-pub front_size : (side : ℕ) (es out : List ℕ) {l : List ℕ} → l ≡ records_of side es → sheet_size (length es) ≤ length out
+pub front_size : (side : ℕ) (es out : List ℕ) {l : List ℕ} → l ≡ records_of side es
+    → sheet_size (length es) ≤ length out
     → length (take (sheet_size (length es)) (l ++ drop (8 * length es) out)) ≡ sheet_size (length es)
 front_size side es out e h = rw e (simp (length-take, length-append, length-drop, length_records) (omega arith))
 

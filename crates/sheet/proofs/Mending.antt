@@ -1,6 +1,7 @@
 -- Mending: what is claimed of it (`mends`), and how its code comes to the answer. Assumes nothing.
-use Rattle.rules.proofs.Common.{ℕ, ◌+◌, ◌-◌, ◌*◌, ◌≤◌, Bool, true, false, cond, not, ◌&&◌, true≢false, List, [], ◌∷◌}
-use Rattle.rules.proofs.Common.{◌++◌, ◌≡◌, refl, sym, ap, ◌∙◌}
+use Rattle.std.specs.Prelude.{◌+◌, ◌-◌, ◌*◌, ◌≤◌, ◌&&◌, ◌∷◌, ◌++◌, ◌≡◌}
+use Rattle.rules.proofs.Common.{ℕ, Bool, true, false, cond, not, true≢false, List, []}
+use Rattle.rules.proofs.Common.{refl, sym, ap, ◌∙◌}
 use Rattle.rules.proofs.Common.{eqb, ltb, length, get_or, take, drop, length-take, length-drop, length-append}
 use mathlib.Core.List.{append_assoc}
 use native.Mathlib.Omega.{arith}
@@ -25,7 +26,8 @@ use Rattle.sheet.proofs.Kept.{kept_room, torn_back, torn_fits, no_longer}
 -- ---- what is written
 
 -- bytes that read are copied
-copied_to : (s : List ℕ) (place : ℕ) → reads_at place (read_sheet s) ≡ true → MendedTo s place (records_in (read_sheet s)) s
+copied_to : (s : List ℕ) (place : ℕ) → reads_at place (read_sheet s) ≡ true
+    → MendedTo s place (records_in (read_sheet s)) s
 copied_to s place e =
     record {
       reads = e;

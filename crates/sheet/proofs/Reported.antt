@@ -1,6 +1,7 @@
 -- What a host is told of what it wrote (`written_is_reported`, `parts_are_reported`). Assumes nothing.
-use Rattle.rules.proofs.Common.{ℕ, ◌+◌, ◌*◌, ◌≤◌, Bool, true, false, not, ◌&&◌, List, [], ◌∷◌, ◌++◌}
-use Rattle.rules.proofs.Common.{◌≡◌, refl, sym, ap, ap₂, ◌∙◌, ltb, length}
+use Rattle.std.specs.Prelude.{◌+◌, ◌*◌, ◌≤◌, ◌&&◌, ◌∷◌, ◌++◌, ◌≡◌}
+use Rattle.rules.proofs.Common.{ℕ, Bool, true, false, not, List, []}
+use Rattle.rules.proofs.Common.{refl, sym, ap, ap₂, ◌∙◌, ltb, length}
 use Rattle.rules.proofs.Common.{get_or, take, drop, length-append}
 use native.Mathlib.Omega.{arith}
 use borrow.Author.Tests.{lt-leb, eq-eqb, ltb-false, not-false}

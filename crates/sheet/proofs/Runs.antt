@@ -1,5 +1,6 @@
 -- Runs of good records, and sums of bytes, as loops go through them. Assumes nothing.
-use Rattle.rules.proofs.Common.{ℕ, zero, suc, ◌+◌, ◌-◌, ◌*◌, ◌≤◌, ◌<◌, true, false, not, List, [], ◌∷◌, ◌++◌, ◌≡◌, refl}
+use Rattle.std.specs.Prelude.{◌+◌, ◌-◌, ◌*◌, ◌≤◌, ◌<◌, ◌∷◌, ◌++◌, ◌≡◌}
+use Rattle.rules.proofs.Common.{ℕ, zero, suc, true, false, not, List, [], refl}
 use Rattle.rules.proofs.Common.{sym, ltb, length, get_or, take}
 use Rattle.rules.proofs.Common.{drop}
 use native.Mathlib.Nat.{zero-add}
@@ -24,7 +25,8 @@ module _ (side n : ℕ) (s : List ℕ) where
   turn : (i : ℕ) → i < n → n - i ≡ suc (n - (i + 1))
   turn i h = omega arith
 
-  pub run_more : (i : ℕ) → i < n → good_record side (drop (8 * i) s) ≡ true → on_from side n s i ≡ on_from side n s (i + 1)
+  pub run_more : (i : ℕ) → i < n → good_record side (drop (8 * i) s) ≡ true
+      → on_from side n s i ≡ on_from side n s (i + 1)
   unfolding run
   run_more i h g =
       let next : 8 * i + 8 ≡ 8 * (i + 1) = omega arith in

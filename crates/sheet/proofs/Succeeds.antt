@@ -1,6 +1,7 @@
 -- Mending is not refused where it can be done (`mend_succeeds`). Assumes nothing.
-use Rattle.rules.proofs.Common.{ℕ, ◌+◌, ◌≤◌, Bool, true, false, cond, not, ◌&&◌, true≢false, List, [], ◌∷◌, ◌++◌}
-use Rattle.rules.proofs.Common.{◌≡◌, refl, sym, ap, eqb, ltb, length}
+use Rattle.std.specs.Prelude.{◌+◌, ◌≤◌, ◌&&◌, ◌∷◌, ◌++◌, ◌≡◌}
+use Rattle.rules.proofs.Common.{ℕ, Bool, true, false, cond, not, true≢false, List, []}
+use Rattle.rules.proofs.Common.{refl, sym, ap, eqb, ltb, length}
 use Rattle.rules.proofs.Common.{take, drop}
 use native.Mathlib.Omega.{arith}
 use mathlib.Core.Logic.{◌⊎◌, inl, inr}

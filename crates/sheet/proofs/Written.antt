@@ -1,5 +1,6 @@
 -- The writer and the reader, each the other's inverse. Assumes nothing.
-use Rattle.rules.proofs.Common.{ℕ, ◌≤◌, List, ◌++◌, ◌≡◌, refl, sym, ap, ◌∙◌, length, drop, length-append}
+use Rattle.std.specs.Prelude.{◌≤◌, ◌++◌, ◌≡◌}
+use Rattle.rules.proofs.Common.{ℕ, List, refl, sym, ap, ◌∙◌, length, drop, length-append}
 use native.Mathlib.Omega.{arith}
 use borrow.Author.Tests.{le-ltb}
 use lib.Seq.{take_at, drop-append_seam}

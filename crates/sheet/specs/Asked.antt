@@ -1,5 +1,6 @@
 -- What a host is told about a file, in numbers: what is returned, and what its buffer holds afterwards.
-use Rattle.rules.specs.Common.{ℕ, not, List, [], ◌∷◌, eqb, leb, length, get_or}
+use Rattle.std.specs.Prelude.{◌∷◌}
+use Rattle.rules.specs.Common.{ℕ, not, List, [], eqb, leb, length, get_or}
 use Rattle.rules.specs.Leaf.{◌leaving◌}
 use Rattle.rules.specs.Refusals.{◌when◌, refusing}
 use Rattle.sheet.specs.End.{End, sheet, refused, end_of, read_sheet}

@@ -1,5 +1,6 @@
 -- What is at the end of some bytes: a sheet and the bytes before it, or a refusal.
-use Rattle.rules.specs.Common.{ℕ, zero, suc, ◌+◌, ◌-◌, ◌*◌, ◌%◌, Bool, cond, not, ◌&&◌, ◌||◌, List, [], ◌∷◌, eqb, ltb}
+use Rattle.std.specs.Prelude.{◌+◌, ◌-◌, ◌*◌, ◌%◌, ◌&&◌, ◌||◌, ◌∷◌}
+use Rattle.rules.specs.Common.{ℕ, zero, suc, Bool, cond, not, List, [], eqb, ltb}
 use Rattle.rules.specs.Common.{length, get_or, take, drop}
 use Rattle.rules.specs.Lists.{sum}
 use Rattle.rules.specs.Refusals.{Row, ◌when◌, refusing}
@@ -19,7 +20,9 @@ three_zeros s = eqb (get_or s 0 0) 0 && (eqb (get_or s 1 0) 0 && eqb (get_or s 2
 
 -- The first record is of this side, is silent or heard, and ends in two zeros.
 unfoldable pub good_record : ℕ → List ℕ → Bool
-good_record side s = not (ltb 1 (get_or s 4 0)) && (eqb (get_or s 5 0) side && (eqb (get_or s 6 0) 0 && eqb (get_or s 7 0) 0))
+good_record side s =
+    not (ltb 1 (get_or s 4 0))
+    && (eqb (get_or s 5 0) side && (eqb (get_or s 6 0) 0 && eqb (get_or s 7 0) 0))
 
 -- How many of n records are good, up to the first that is not.
 unfoldable pub run : ℕ → ℕ → List ℕ → ℕ

@@ -1,8 +1,8 @@
 -- Claims about sheets: the writer and the reader are inverse (request 02; proofs/Written), mending (request
 -- 14; proofs/Mending, proofs/Succeeds), a sheet in parts (proofs/InRow), and what the functions that a host
 -- calls report of what they wrote (proofs/Reported).
-use Rattle.std.specs.Prelude.{◌⊎◌}
-use Rattle.rules.specs.Common.{ℕ, ◌+◌, ◌*◌, ◌≤◌, ◌<◌, true, false, List, [], ◌∷◌, ◌++◌, ◌≡◌, length, get_or, take, drop}
+use Rattle.std.specs.Prelude.{◌⊎◌, ◌+◌, ◌*◌, ◌≤◌, ◌<◌, ◌∷◌, ◌++◌, ◌≡◌}
+use Rattle.rules.specs.Common.{ℕ, true, false, List, [], length, get_or, take, drop}
 use Rattle.rules.specs.Leaf.{◌leaving◌}
 use Rattle.rules.specs.Lists.{Bytes}
 use Rattle.sheet.specs.Sheet.{Sheet, records_of, trailer_of, sheet_bytes, sheet_size}
@@ -49,7 +49,8 @@ abbrev pub Mends : Type 0
 Mends =
     (s : List ℕ) (place : ℕ) (numbers out told after : List ℕ) → Bytes s
     → (0 leaving told leaving after) ≡ mend_of s place numbers out
-    → let size = get_or told 0 0 in MendedTo s place (get_or told 1 0) (take size after) × (drop size after ≡ drop size out)
+    → let size = get_or told 0 0 in MendedTo s place (get_or told 1 0) (take size after)
+    × (drop size after ≡ drop size out)
 
 -- At least one whole good record follows the audio, and no more than a sheet can hold.
 abbrev pub RecordsFollow : List ℕ → Type 0
@@ -78,7 +79,8 @@ together (es ∷ parts) = es ++ together parts
 -- They are the sheet of all their entries, as it is written at once.
 abbrev pub PartsAreWhole : Type 0
 PartsAreWhole = (side : ℕ) (parts : List (List ℕ))
-    → in_row side (record { count = 0; total = 0 }) parts ≡ sheet_bytes (record { side = side; entries = together parts })
+    → in_row side (record { count = 0; total = 0 }) parts
+    ≡ sheet_bytes (record { side = side; entries = together parts })
 
 -- ---- what a host is told of what it wrote
 

@@ -1,5 +1,6 @@
 -- Mending a torn sheet (document 02, request 14), given the file and where its audio ends.
-use Rattle.rules.specs.Common.{ℕ, ◌/◌, Bool, false, cond, not, ◌&&◌, List, [], ◌∷◌, ◌++◌, eqb, ltb, length, get_or, take}
+use Rattle.std.specs.Prelude.{◌/◌, ◌&&◌, ◌∷◌, ◌++◌}
+use Rattle.rules.specs.Common.{ℕ, Bool, false, cond, not, List, [], eqb, ltb, length, get_or, take}
 use Rattle.rules.specs.Common.{drop}
 use Rattle.rules.specs.Leaf.{◌leaving◌}
 use Rattle.rules.specs.Refusals.{Row, ◌when◌, refusing}

@@ -1,5 +1,6 @@
 -- For the contracts of private functions.
-use Rattle.rules.specs.Common.{ℕ, ◌+◌, ◌*◌, ◌^◌, ◌≤◌, ◌<◌, List, [], ◌∷◌, ◌++◌, ◌≡◌, ltb, length, get_or, take, drop}
+use Rattle.std.specs.Prelude.{◌+◌, ◌*◌, ◌^◌, ◌≤◌, ◌<◌, ◌∷◌, ◌++◌, ◌≡◌}
+use Rattle.rules.specs.Common.{ℕ, List, [], ltb, length, get_or, take, drop}
 use Rattle.rules.specs.Leaf.{◌leaving◌}
 use Rattle.rules.specs.Lists.{sum}
 use Rattle.rules.specs.Refusals.{◌when◌, refusing}

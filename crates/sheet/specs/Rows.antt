@@ -1,6 +1,7 @@
 -- A sheet written in parts: the records of some entries at a time, and at the end a trailer. What is
 -- returned, and what the buffers hold afterwards.
-use Rattle.rules.specs.Common.{ℕ, ◌+◌, ◌*◌, ◌%◌, not, List, [], ◌∷◌, ◌++◌, eqb, ltb, length, get_or, drop}
+use Rattle.std.specs.Prelude.{◌+◌, ◌*◌, ◌%◌, ◌∷◌, ◌++◌}
+use Rattle.rules.specs.Common.{ℕ, not, List, [], eqb, ltb, length, get_or, drop}
 use Rattle.rules.specs.Leaf.{◌leaving◌}
 use Rattle.rules.specs.Lists.{sum}
 use Rattle.rules.specs.Refusals.{Row, ◌when◌, refusing}

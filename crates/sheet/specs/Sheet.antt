@@ -1,5 +1,6 @@
 -- A side sheet (document 02, request 02), as data and as bytes.
-use Rattle.rules.specs.Common.{ℕ, ◌+◌, ◌*◌, ◌/◌, ◌%◌, List, [], ◌∷◌, ◌++◌, length}
+use Rattle.std.specs.Prelude.{◌+◌, ◌*◌, ◌/◌, ◌%◌, ◌∷◌, ◌++◌}
+use Rattle.rules.specs.Common.{ℕ, List, [], length}
 use Rattle.rules.specs.Lists.{sum}
 
 -- A number modulo 2^32 as four bytes, least significant byte first.

@@ -1,5 +1,6 @@
 -- Writing a sheet: what is returned, and what the buffer holds afterwards.
-use Rattle.rules.specs.Common.{ℕ, Bool, true, not, ◌&&◌, List, [], ◌∷◌, ◌++◌, ltb, length, drop}
+use Rattle.std.specs.Prelude.{◌&&◌, ◌∷◌, ◌++◌}
+use Rattle.rules.specs.Common.{ℕ, Bool, true, not, List, [], ltb, length, drop}
 use Rattle.rules.specs.Leaf.{◌leaving◌}
 use Rattle.rules.specs.Refusals.{Row, ◌when◌, refusing}
 use Rattle.sheet.specs.Sheet.{Sheet, kind, sheet_bytes, sheet_size}

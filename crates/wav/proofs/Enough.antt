@@ -1,5 +1,6 @@
 -- The first 34 bytes from a place on tell all that a step of a reading asks. Assumes nothing.
-use Rattle.rules.proofs.Common.{ℕ, ◌+◌, ◌≤◌, Bool, true, false, List, ◌≡◌, refl, sym, ap, ◌∙◌, ltb, length, get_or, take}
+use Rattle.std.specs.Prelude.{◌+◌, ◌≤◌, ◌≡◌}
+use Rattle.rules.proofs.Common.{ℕ, Bool, true, false, List, refl, sym, ap, ◌∙◌, ltb, length, get_or, take}
 use Rattle.rules.proofs.Common.{drop, length-take}
 use Prim.Native.Nat.{min}
 use native.Mathlib.Omega.{arith}

@@ -1,5 +1,6 @@
 -- Seals and heads by the definitions, as computed lists. Assumes nothing.
-use Rattle.rules.proofs.Common.{ℕ, List, [], ◌∷◌, ◌++◌, map, ◌≡◌, refl, take, drop, set}
+use Rattle.std.specs.Prelude.{◌∷◌, ◌++◌, ◌≡◌}
+use Rattle.rules.proofs.Common.{ℕ, List, [], map, refl, take, drop, set}
 use Rattle.rules.specs.Loop.{loop}
 use Rattle.rules.specs.Tab.{tab}
 use Rattle.checksum.specs.Checksum.{table, crc, crc32}

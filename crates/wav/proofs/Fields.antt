@@ -1,5 +1,6 @@
 -- What stands at a place of some bytes. Assumes nothing.
-use Rattle.rules.proofs.Common.{ℕ, ◌+◌, ◌*◌, ◌/◌, ◌^◌, ◌≤◌, ◌<◌, List, ◌≡◌, get_or, drop}
+use Rattle.std.specs.Prelude.{◌+◌, ◌*◌, ◌/◌, ◌^◌, ◌≤◌, ◌<◌, ◌≡◌}
+use Rattle.rules.proofs.Common.{ℕ, List, get_or, drop}
 use native.Mathlib.Nat.{add-zero, mul-le-mul_right}
 use native.Mathlib.Omega.{arith}
 use lib.Seq.{get_or-drop}

@@ -1,6 +1,7 @@
 -- What is written reads back as the seal that it was, and with the other side's letters in their place as none.
 -- Assumes nothing.
-use Rattle.rules.proofs.Common.{ℕ, ◌/◌, ◌^◌, ◌≤◌, ◌<◌, Bool, true, false, List, [], ◌∷◌, ◌++◌, ◌≡◌}
+use Rattle.std.specs.Prelude.{◌/◌, ◌^◌, ◌≤◌, ◌<◌, ◌∷◌, ◌++◌, ◌≡◌}
+use Rattle.rules.proofs.Common.{ℕ, Bool, true, false, List, []}
 use Rattle.rules.proofs.Common.{refl, sym}
 use Rattle.rules.proofs.Common.{ap, ◌∙◌, eqb, length, take, drop, length-append}
 use mathlib.Core.List.{append_assoc}

@@ -1,5 +1,6 @@
 -- A seal laid into a buffer, and each answer of its writer and its reader. Assumes nothing.
-use Rattle.rules.proofs.Common.{ℕ, ◌+◌, ◌-◌, ◌*◌, ◌≤◌, ◌<◌, List, [], ◌∷◌, ◌++◌, ◌≡◌, refl, sym, ap, ◌∙◌, length, take}
+use Rattle.std.specs.Prelude.{◌+◌, ◌-◌, ◌*◌, ◌≤◌, ◌<◌, ◌∷◌, ◌++◌, ◌≡◌}
+use Rattle.rules.proofs.Common.{ℕ, List, [], refl, sym, ap, ◌∙◌, length, take}
 use Rattle.rules.proofs.Common.{drop, length-drop, length-append}
 use mathlib.Core.List.{append-nil}
 use native.Mathlib.Omega.{arith}

@@ -1,6 +1,7 @@
 -- The head of a WAV file, read chunk by chunk: what the next step of a reading finds in the file's bytes from
 -- a place on. Four letters are read as a number, least significant byte first.
-use Rattle.rules.specs.Common.{ℕ, ◌+◌, ◌*◌, ◌/◌, ◌%◌, min, cond, not, ◌&&◌, ◌||◌, List, [], ◌∷◌, eqb, ltb, length}
+use Rattle.std.specs.Prelude.{◌+◌, ◌*◌, ◌/◌, ◌%◌, ◌&&◌, ◌||◌, ◌∷◌}
+use Rattle.rules.specs.Common.{ℕ, min, cond, not, List, [], eqb, ltb, length}
 use Rattle.rules.specs.Common.{get_or, drop}
 use Rattle.rules.specs.Leaf.{◌leaving◌}
 use Rattle.rules.specs.Refusals.{Row, ◌when◌, refusing}
@@ -33,7 +34,8 @@ unread = record { place = 0; format = 0; channels = 0; rate = 0; size = 0 }
 
 unfoldable pub front_of : List ℕ → Step
 front_of s =
-    refusing (41 when (ltb (length s) 12 || (not (eqb (from_four s) RIFF) || not (eqb (from_four (drop 8 s)) WAVE))) ∷ [])
+    refusing (41 when (ltb (length s) 12 || (not (eqb (from_four s) RIFF) || not (eqb (from_four (drop 8 s)) WAVE)))
+    ∷ [])
     Refused
     (On (record { place = 12; format = 0; channels = 0; rate = 0; size = 0 }))
 
@@ -108,7 +110,13 @@ step_of s h = cond (eqb h.place 0) (front_of s) (chunk_of s h)
 -- Where a reading is, as the numbers that a host keeps.
 abbrev pub head_from : List ℕ → Head
 head_from ns =
-    record { place = get_or ns 0 0; format = get_or ns 1 0; channels = get_or ns 2 0; rate = get_or ns 3 0; size = get_or ns 4 0 }
+    record {
+      place = get_or ns 0 0;
+      format = get_or ns 1 0;
+      channels = get_or ns 2 0;
+      rate = get_or ns 3 0;
+      size = get_or ns 4 0;
+    }
 
 abbrev pub head_numbers : Head → List ℕ
 head_numbers h = h.place ∷ h.format ∷ h.channels ∷ h.rate ∷ h.size ∷ []

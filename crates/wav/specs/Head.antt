@@ -1,5 +1,6 @@
 -- The head of a WAV file with one channel of 16 bits.
-use Rattle.rules.specs.Common.{ℕ, ◌+◌, ◌*◌, ◌%◌, min, not, List, [], ◌∷◌, ◌++◌, eqb, length}
+use Rattle.std.specs.Prelude.{◌+◌, ◌*◌, ◌%◌, ◌∷◌, ◌++◌}
+use Rattle.rules.specs.Common.{ℕ, min, not, List, [], eqb, length}
 use Rattle.rules.specs.Leaf.{◌leaving◌}
 use Rattle.rules.specs.Refusals.{◌when◌, refusing}
 use Rattle.sheet.specs.Sheet.{four}

@@ -1,5 +1,6 @@
 -- Claims about seals and heads. Proofs: proofs/Sealed, Onward, Enough, Back.
-use Rattle.rules.specs.Common.{ℕ, zero, suc, ◌+◌, ◌^◌, ◌≤◌, ◌<◌, List, [], ◌∷◌, ◌++◌, ◌≡◌, length, take, drop}
+use Rattle.std.specs.Prelude.{◌+◌, ◌^◌, ◌≤◌, ◌<◌, ◌∷◌, ◌++◌, ◌≡◌}
+use Rattle.rules.specs.Common.{ℕ, zero, suc, List, [], length, take, drop}
 use Rattle.rules.specs.Leaf.{◌leaving◌}
 use Rattle.sides.specs.Sides.{letters_of}
 use Rattle.sides.specs.declared.Side.{Side}

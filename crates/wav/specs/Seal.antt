@@ -1,6 +1,7 @@
 -- The two seals of a recording: as data, as 24 bytes, and as they are read. Four letters are read as a
 -- number, least significant byte first.
-use Rattle.rules.specs.Common.{ℕ, ◌+◌, ◌*◌, ◌/◌, not, ◌||◌, List, [], ◌∷◌, ◌++◌, eqb, ltb, length, take, drop}
+use Rattle.std.specs.Prelude.{◌+◌, ◌*◌, ◌/◌, ◌||◌, ◌∷◌, ◌++◌}
+use Rattle.rules.specs.Common.{ℕ, not, List, [], eqb, ltb, length, take, drop}
 use Rattle.rules.specs.Leaf.{◌leaving◌}
 use Rattle.rules.specs.Refusals.{Row, ◌when◌, refusing}
 use Rattle.checksum.specs.Checksum.{crc32}
@@ -79,4 +80,5 @@ seal_told (Whole s) out = 0 leaving number_of s.side ∷ s.long ∷ s.short ∷ 
 seal_told (Refused n) out = n leaving out
 
 unfoldable pub seal_summary : Word → List ℕ → List ℕ → ℕ × List ℕ
-seal_summary w s out = refusing (5 when not (eqb (length out) 3) ∷ []) (λ n. n leaving out) (seal_told (seal_read w s) out)
+seal_summary w s out = refusing (5 when not (eqb (length out) 3) ∷ []) (λ n. n leaving out)
+    (seal_told (seal_read w s) out)

@@ -1,8 +1,10 @@
 -- The loop's invariant: from the register on, the bytes that are left come to what all of them come to.
 -- Assumes nothing.
-use Rattle.rules.proofs.Common.{◌≤◌, ◌≡◌, length, drop}
+use Rattle.std.specs.Prelude.{◌≤◌, ◌≡◌}
+use Rattle.rules.proofs.Common.{length, drop}
 use Rattle.checksum.specs.Checksum.{crc}
 use Rattle.checksum.proofs.update.Given as goal
 
 abbrev pub invariant-loop-i : goal.invariant-loop-i
-invariant-loop-i l = (l.i ≤ l.i-end) × (l.i-end ≡ length l.bytes) × (crc l.start l.bytes ≡ crc l.register (drop l.i l.bytes))
+invariant-loop-i l = (l.i ≤ l.i-end) × (l.i-end ≡ length l.bytes)
+    × (crc l.start l.bytes ≡ crc l.register (drop l.i l.bytes))

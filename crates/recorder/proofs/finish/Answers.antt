@@ -17,7 +17,9 @@ returns-then-trailer-ne16 c =
     c.if-trailer-ne16.true
 
 pub returns-then-refused-ne0 : goal.returns-then-refused-ne0
-returns-then-refused-ne0 c = finish_refused c.args.numbers.now c.args.head.now c.args.chunk.now c.args.trailer.now c.if-numbers-ne8.false c.if-head-ne76.false c.if-chunk-ne32.false c.if-trailer-ne16.false c.recorder_in-recorder.ensures c.close_refusal-refused.ensures c.if-refused-ne0.true
+returns-then-refused-ne0 c = finish_refused c.args.numbers.now c.args.head.now c.args.chunk.now c.args.trailer.now
+    c.if-numbers-ne8.false c.if-head-ne76.false c.if-chunk-ne32.false c.if-trailer-ne16.false
+    c.recorder_in-recorder.ensures c.close_refusal-refused.ensures c.if-refused-ne0.true
 
 pub lay-requires : goal.lay-requires
 lay-requires c =
@@ -32,4 +34,6 @@ lay-requires c =
 pub returns : goal.returns
 returns c =
     finish_done c.args.numbers.now c.args.head.now c.args.chunk.now c.args.trailer.now
-    c.if-numbers-ne8.false c.if-head-ne76.false c.if-chunk-ne32.false c.if-trailer-ne16.false c.recorder_in-recorder.ensures c.close_refusal-refused.ensures c.if-refused-ne0.false c.lay.ensures.0 c.lay.ensures.1 c.lay.ensures.2
+    c.if-numbers-ne8.false c.if-head-ne76.false c.if-chunk-ne32.false c.if-trailer-ne16.false
+    c.recorder_in-recorder.ensures c.close_refusal-refused.ensures c.if-refused-ne0.false c.lay.ensures.0
+    c.lay.ensures.1 c.lay.ensures.2

@@ -1,5 +1,5 @@
+use Rattle.std.specs.Prelude.{◌-◌, ◌/◌, ◌≡◌}
 use native.Mathlib.Omega.{arith}
-use Rattle.rules.proofs.Common.{◌-◌, ◌/◌, ◌≡◌}
 use Rattle.recorder.specs.Recorder.{following}
 use Rattle.recorder.proofs.following.Goals as goal
 use Rattle.recorder.proofs.following.Goals.{then-written-recorder, else-written-recorder}

@@ -1,4 +1,5 @@
-use Rattle.rules.proofs.Common.{[], ◌∷◌, ◌∙◌, length-set}
+use Rattle.std.specs.Prelude.{◌∷◌}
+use Rattle.rules.proofs.Common.{[], ◌∙◌, length-set}
 use native.Mathlib.Omega.{arith}
 use Rattle.rules.proofs.Places.{all_stored}
 use Rattle.recorder.proofs.Answers.{more_5, more_5', more_refused, more_done, part_whole, part_places, part_long}
@@ -14,7 +15,8 @@ returns-then-part-ne2 c = more_5' _ _ _ _ _ c.if-numbers-ne8.false c.if-part-ne2
 pub returns-then-refused-ne0 : goal.returns-then-refused-ne0
 returns-then-refused-ne0 c =
     more_refused c.args.taken
-    c.args.cleaned.now c.args.records.now c.args.numbers.now c.args.part.now c.if-numbers-ne8.false c.if-part-ne2.false c.recorder_in-recorder.ensures c.refusal-refused.ensures c.if-refused-ne0.true
+    c.args.cleaned.now c.args.records.now c.args.numbers.now c.args.part.now c.if-numbers-ne8.false c.if-part-ne2.false
+    c.recorder_in-recorder.ensures c.refusal-refused.ensures c.if-refused-ne0.true
 
 pub overflow_add-end : goal.overflow_add-end
 overflow_add-end c = omega (arith, c.part_of-found.ensures.inside)
@@ -27,7 +29,8 @@ recorded-requires c =
     let a = c.args in
     let p = c.part_of-found in
     rw (part_long a.cleaned.now p.result.start p.result.size p.ensures.inside)
-    (room_for c.recorder_in-recorder.result a.taken a.cleaned.now a.records.now c.refusal-refused.ensures c.if-refused-ne0.false
+    (room_for c.recorder_in-recorder.result a.taken a.cleaned.now a.records.now c.refusal-refused.ensures
+    c.if-refused-ne0.false
     (small_in _ c.recorder_in-recorder.ensures) p.result.size p.ensures.room)
 
 pub bounds-part-1 : goal.bounds-part-1
@@ -38,6 +41,8 @@ returns c =
     let a = c.args in
     let p = c.part_of-found in
     let r = c.recorder_in-recorder.result in
-    more_done a.taken a.cleaned.now a.records.now a.numbers.now a.part.now c.if-numbers-ne8.false c.if-part-ne2.false c.recorder_in-recorder.ensures c.refusal-refused.ensures c.if-refused-ne0.false
+    more_done a.taken a.cleaned.now a.records.now a.numbers.now a.part.now c.if-numbers-ne8.false c.if-part-ne2.false
+    c.recorder_in-recorder.ensures c.refusal-refused.ensures c.if-refused-ne0.false
     (part_whole r a.taken a.cleaned.now p.result p.ensures.is) c.recorded.ensures c.put.ensures
-    (all_stored a.part.now (p.result.start ∷ p.result.size ∷ []) c.if-part-ne2.false ∙ part_places r a.taken a.cleaned.now p.result p.ensures.is)
+    (all_stored a.part.now (p.result.start ∷ p.result.size ∷ []) c.if-part-ne2.false
+    ∙ part_places r a.taken a.cleaned.now p.result p.ensures.is)

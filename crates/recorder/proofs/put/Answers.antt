@@ -1,4 +1,5 @@
-use Rattle.rules.proofs.Common.{[], ◌∷◌, ◌∙◌, length-set}
+use Rattle.std.specs.Prelude.{◌∷◌}
+use Rattle.rules.proofs.Common.{[], ◌∙◌, length-set}
 use native.Mathlib.Omega.{arith}
 use Rattle.rules.proofs.Places.{all_stored}
 use Rattle.recorder.proofs.put.Goals as goal
@@ -27,4 +28,5 @@ returns c =
     let r = c.args.recorder in
     let f = r.front in
     let number = c.number in
-    all_stored c.args.numbers.now (number.result ∷ f.began ∷ f.first ∷ r.taken ∷ r.size ∷ r.crc ∷ r.count ∷ r.sum ∷ []) c.requires ∙ rw number.ensures.0
+    all_stored c.args.numbers.now (number.result ∷ f.began ∷ f.first ∷ r.taken ∷ r.size ∷ r.crc ∷ r.count ∷ r.sum ∷ [])
+    c.requires ∙ rw number.ensures.0

@@ -12,7 +12,14 @@ pub returns-then-size-next : goal.returns-then-size-next
 returns-then-size-next c = (omega arith, λ h. absurd (omega arith))
 
 pub returns-then-size-next-2 : goal.returns-then-size-next-2
-returns-then-size-next-2 c = (omega arith, λ h. record { right = search rules; part = search rules; room = omega arith })
+returns-then-size-next-2 c = (
+  omega arith,
+  λ h. record {
+    right = search rules;
+    part = search rules;
+    room = omega arith;
+  },
+)
 
 pub returns : goal.returns
 returns c = (omega arith, λ h. record { right = search rules; part = search rules; room = omega arith })

@@ -16,8 +16,13 @@ returns-then-front-i c =
 
 pub loop-i-preserved : goal.loop-i-preserved
 loop-i-preserved c =
-    let l = c.loop-i in
-    (omega arith, refl, l.invariant.2, l.invariant.3 ∙ begins_more _ _ l.invariant.2 l.i (omega arith) c.if-front-i.false)
+    let l = c.loop-i in (
+      omega arith,
+      refl,
+      l.invariant.2,
+      l.invariant.3 ∙ begins_more _ _ l.invariant.2 l.i (omega arith)
+          c.if-front-i.false,
+    )
 
 pub returns : goal.returns
 returns c = let l = c.loop-i in sym (l.invariant.3 ∙ begins_ended _ _ l.invariant.2 l.i (omega arith))

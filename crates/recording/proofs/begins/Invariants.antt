@@ -1,4 +1,5 @@
-use Rattle.rules.proofs.Common.{◌≤◌, ◌≡◌, length, drop}
+use Rattle.std.specs.Prelude.{◌≤◌, ◌≡◌}
+use Rattle.rules.proofs.Common.{length, drop}
 use Rattle.recording.specs.Verdict.{begins}
 use Rattle.recording.proofs.begins.Given as goal
 

@@ -1,4 +1,5 @@
-use Rattle.rules.proofs.Common.{ℕ, ◌+◌, ap, ◌∙◌}
+use Rattle.std.specs.Prelude.{◌+◌}
+use Rattle.rules.proofs.Common.{ℕ, ap, ◌∙◌}
 use Rattle.wav.specs.Head.{head_of}
 use Rattle.recording.proofs.Written.{head_joined}
 use Rattle.recording.proofs.head_for.Goals as goal

@@ -1,4 +1,5 @@
-use Rattle.rules.proofs.Common.{◌-◌, ◌∙◌, length, drop, length-take, length-drop}
+use Rattle.std.specs.Prelude.{◌-◌}
+use Rattle.rules.proofs.Common.{◌∙◌, length, drop, length-take, length-drop}
 use native.Mathlib.Omega.{arith}
 use lib.Seq.{take_all}
 use Rattle.sheet.specs.Sheet.{four}

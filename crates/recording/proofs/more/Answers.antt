@@ -1,4 +1,5 @@
-use Rattle.rules.proofs.Common.{◌+◌, refl, sym, ◌∙◌}
+use Rattle.std.specs.Prelude.{◌+◌}
+use Rattle.rules.proofs.Common.{refl, sym, ◌∙◌}
 use native.Mathlib.Omega.{arith}
 use Rattle.rules.proofs.Loops.{turns}
 use Rattle.recording.proofs.Running.{run_part, part_long, run_ended}

@@ -1,4 +1,5 @@
-use Rattle.rules.proofs.Common.{◌-◌, ◌≤◌, ◌≡◌, length, drop}
+use Rattle.std.specs.Prelude.{◌-◌, ◌≤◌, ◌≡◌}
+use Rattle.rules.proofs.Common.{length, drop}
 use Rattle.recording.specs.Judge.{fed}
 use Rattle.recording.proofs.more.Given as goal
 

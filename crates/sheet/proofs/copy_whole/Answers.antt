@@ -1,4 +1,5 @@
-use Rattle.rules.proofs.Common.{[], ◌∷◌, refl, length, length-take}
+use Rattle.std.specs.Prelude.{◌∷◌}
+use Rattle.rules.proofs.Common.{[], refl, length, length-take}
 use native.Mathlib.Omega.{arith}
 use borrow.Author.Tests.{lt-ltb, le-ltb}
 use Rattle.rules.proofs.Refusals.{leave_both}

@@ -1,4 +1,5 @@
-use Rattle.rules.proofs.Common.{[], ◌∷◌, sym, ◌∙◌}
+use Rattle.std.specs.Prelude.{◌∷◌}
+use Rattle.rules.proofs.Common.{[], sym, ◌∙◌}
 use native.Mathlib.Omega.{arith}
 use borrow.Author.Tests.{eq-eqb}
 use Rattle.rules.proofs.Refusals.{leaves}

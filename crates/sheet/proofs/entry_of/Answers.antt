@@ -1,6 +1,6 @@
 use Prim.Native.Nat.{◌+◌}
 use native.Mathlib.Omega.{arith}
-use Rattle.sheet.proofs.Fields.{entry_at}
+use Rattle.sheet.proofs.Fields.{entry_at_lem}
 use Rattle.sheet.proofs.entry_of.Goals as goal
 
 pub overflow_cast-result : goal.overflow_cast-result
@@ -18,4 +18,4 @@ overflow_add-result-2 c =
     )
 
 pub returns : goal.returns
-returns c = rw (entry_at, c.number_at.ensures.0)
+returns c = rw (entry_at_lem, c.number_at.ensures.0)

@@ -1,4 +1,5 @@
-use Rattle.rules.proofs.Common.{ℕ, List, ◌-◌, ◌+◌, ◌*◌, ◌≤◌, [], ◌∷◌, ◌++◌, ◌≡◌, sym, ap, ◌∙◌, length, take, drop, length-set}
+use Rattle.std.specs.Prelude.{◌-◌, ◌+◌, ◌*◌, ◌≤◌, ◌∷◌, ◌++◌, ◌≡◌}
+use Rattle.rules.proofs.Common.{ℕ, List, [], sym, ap, ◌∙◌, length, take, drop, length-set}
 use Rattle.rules.proofs.Common.{length-take}
 use native.Mathlib.Omega.{arith}
 use borrow.Author.Tests.{lt-ltb, le-ltb, eq-eqb, ne_eqb}
@@ -26,10 +27,22 @@ module _ (s : List ℕ) (at n : ℕ) (before : at ≤ length s) (told : n ≡ ke
   size = size_anew s at before kept_there
 
 pub returns-then-records-eq0 : goal.returns-then-records-eq0
-returns-then-records-eq0 c = rw (← by_run c.args.file.now c.args.at c.args.numbers.now c.args.out.now c.requires.0 c.requires.1 c.requires.2, eq-eqb _ 0 (sym (kept_there c.args.file.now c.args.at _ c.requires.1 c.kept_of-records.ensures) ∙ c.if-records-eq0.true))
+returns-then-records-eq0 c = rw (
+  ← by_run c.args.file.now c.args.at c.args.numbers.now c.args.out.now c.requires.0
+      c.requires.1 c.requires.2,
+  eq-eqb _ 0 (sym (kept_there c.args.file.now c.args.at _ c.requires.1
+      c.kept_of-records.ensures) ∙ c.if-records-eq0.true),
+)
 
 pub returns-then-records-gt536870911 : goal.returns-then-records-gt536870911
-returns-then-records-gt536870911 c = rw (← by_run c.args.file.now c.args.at c.args.numbers.now c.args.out.now c.requires.0 c.requires.1 c.requires.2, ← kept_there c.args.file.now c.args.at _ c.requires.1 c.kept_of-records.ensures, ne_eqb _ 0 c.if-records-eq0.false, lt-ltb _ _ c.if-records-gt536870911.true)
+returns-then-records-gt536870911 c = rw (
+  ← by_run c.args.file.now c.args.at c.args.numbers.now c.args.out.now
+      c.requires.0 c.requires.1 c.requires.2,
+  ← kept_there c.args.file.now c.args.at _ c.requires.1
+      c.kept_of-records.ensures,
+  ne_eqb _ 0 c.if-records-eq0.false,
+  lt-ltb _ _ c.if-records-gt536870911.true,
+)
 
 pub returns-then-out-size : goal.returns-then-out-size
 returns-then-out-size c =
@@ -43,7 +56,11 @@ returns-then-out-size c =
     )
 
 pub bounds-file-at : goal.bounds-file-at
-bounds-file-at c = omega (arith, within c.args.file.now c.args.at _ c.requires.1 c.kept_of-records.ensures, c.if-records-eq0.false)
+bounds-file-at c = omega (
+  arith,
+  within c.args.file.now c.args.at _ c.requires.1 c.kept_of-records.ensures,
+  c.if-records-eq0.false,
+)
 
 pub overflow_cast-side : goal.overflow_cast-side
 overflow_cast-side c =
@@ -76,7 +93,8 @@ close-requires c =
     let known = rw (get_or-drop c.args.at s 5 0) at
     (kept_known (drop c.args.at s)
     (some_kept c.args.file.now c.args.at _ c.requires.1 c.kept_of-records.ensures c.if-records-eq0.false)) in (
-      part_size s c.args.at c.requires.1 (kept_there c.args.file.now c.args.at _ c.requires.1 c.kept_of-records.ensures) c.args.out.now
+      part_size s c.args.at c.requires.1 (kept_there c.args.file.now c.args.at _ c.requires.1 c.kept_of-records.ensures)
+          c.args.out.now
           c.copy.ensures
           c.if-out-size.false,
       omega (arith, c.if-records-gt536870911.false),
@@ -106,7 +124,8 @@ returns c =
     rw (size c.args.file.now c.args.at _ c.requires.1 c.kept_of-records.ensures) c.if-out-size.false in
     let told = all_stored c.args.numbers.now ((at + 8 * c.kept_of-records.result + 16) ∷ c.kept_of-records.result ∷ [])
     c.requires.0 in
-    let laid = lay_anew s at c.requires.1 (kept_there c.args.file.now c.args.at _ c.requires.1 c.kept_of-records.ensures) out (λ i. omega (arith, c.type_inv.file i)) (sym (get_or-drop at s 5 0))
+    let laid = lay_anew s at c.requires.1 (kept_there c.args.file.now c.args.at _ c.requires.1
+    c.kept_of-records.ensures) out (λ i. omega (arith, c.type_inv.file i)) (sym (get_or-drop at s 5 0))
     c.copy.ensures c.close.ensures in
     rw (
       ← by_run c.args.file.now c.args.at c.args.numbers.now c.args.out.now c.requires.0 c.requires.1 c.requires.2,

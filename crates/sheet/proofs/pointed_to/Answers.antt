@@ -1,5 +1,6 @@
 -- `at` is where the side is asked, behind both tests of the distance. Assumes nothing.
-use Rattle.rules.proofs.Common.{◌+◌, ◌-◌, sym, ◌∙◌, length}
+use Rattle.std.specs.Prelude.{◌+◌, ◌-◌}
+use Rattle.rules.proofs.Common.{sym, ◌∙◌, length}
 use native.Mathlib.Omega.{arith}
 use Rattle.sheet.proofs.Halves.{distance_is, number_is, side_is, padded_is, at_31, at_32, at_32', at_33, at_33'}
 use Rattle.sheet.proofs.Halves.{at_good}

@@ -1,4 +1,4 @@
-use Rattle.rules.proofs.Common.{◌%◌, ◌≡◌}
+use Rattle.std.specs.Prelude.{◌%◌, ◌≡◌}
 use native.Mathlib.Omega.{arith}
 use Rattle.sheet.specs.Sheet.{four, kind, record_bytes}
 use Rattle.sheet.proofs.record_of.Goals as goal

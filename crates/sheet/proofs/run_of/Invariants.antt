@@ -1,5 +1,5 @@
 -- The loop's invariant: the run is the records passed and the run behind them. Assumes nothing.
-use Rattle.rules.proofs.Common.{◌-◌, ◌≤◌, ◌≡◌}
+use Rattle.std.specs.Prelude.{◌-◌, ◌≤◌, ◌≡◌}
 use Rattle.sheet.specs.End.{run}
 use Rattle.sheet.proofs.Runs.{on_from}
 use Rattle.sheet.proofs.run_of.Given as goal

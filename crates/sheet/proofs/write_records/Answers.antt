@@ -1,5 +1,6 @@
 -- The loop's invariant: the first i records stand in front, and the rest is as it was. Assumes nothing.
-use Rattle.rules.proofs.Common.{◌+◌, refl, ap, ◌∙◌, length, length-take, length-drop}
+use Rattle.std.specs.Prelude.{◌+◌}
+use Rattle.rules.proofs.Common.{refl, ap, ◌∙◌, length, length-take, length-drop}
 use native.Mathlib.Omega.{arith}
 use Rattle.sheet.proofs.Laying.{length_record, length_laid, lay_more, lay_ended}
 use Rattle.sheet.proofs.write_records.Goals as goal

@@ -7,7 +7,8 @@ pub loop-i-init : goal.loop-i-init
 loop-i-init c = (omega arith, records_begin _ _ _ _)
 
 pub returns-then-not-is_record : goal.returns-then-not-is_record
-returns-then-not-is_record c = let l = c.loop-i in sym (l.invariant.1 ∙ records_stop _ _ _ _ l.i (omega arith) (sym c.is_record.ensures ∙ c.if-not-is_record.true))
+returns-then-not-is_record c = let l = c.loop-i in sym (l.invariant.1
+    ∙ records_stop _ _ _ _ l.i (omega arith) (sym c.is_record.ensures ∙ c.if-not-is_record.true))
 
 pub loop-i-preserved : goal.loop-i-preserved
 loop-i-preserved c =

@@ -1,4 +1,4 @@
-use Rattle.rules.proofs.Common.{◌-◌, ◌≤◌, ◌≡◌}
+use Rattle.std.specs.Prelude.{◌-◌, ◌≤◌, ◌≡◌}
 use Rattle.recorder.specs.Recorder.{are_records}
 use Rattle.recorder.proofs.InRow.{on_from}
 use Rattle.recorder.proofs.records.are_records.Given as goal

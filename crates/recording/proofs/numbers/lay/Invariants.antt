@@ -1,4 +1,5 @@
-use Rattle.rules.proofs.Common.{◌-◌, ◌≤◌, ◌≡◌, length, get_or}
+use Rattle.std.specs.Prelude.{◌-◌, ◌≤◌, ◌≡◌}
+use Rattle.rules.proofs.Common.{length, get_or}
 use Rattle.rules.proofs.Lists.{Filling}
 use Rattle.recording.proofs.numbers.lay.Given as goal
 

@@ -1,4 +1,5 @@
-use Rattle.rules.proofs.Common.{[], ◌∷◌, ◌∙◌, length-set}
+use Rattle.std.specs.Prelude.{◌∷◌}
+use Rattle.rules.proofs.Common.{[], ◌∙◌, length-set}
 use native.Mathlib.Omega.{arith}
 use Rattle.rules.proofs.Places.{all_stored}
 use Rattle.recording.proofs.numbers.put.Goals as goal

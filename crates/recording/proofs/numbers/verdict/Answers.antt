@@ -1,4 +1,5 @@
-use Rattle.rules.proofs.Common.{[], ◌∷◌, sym, ◌∙◌, length-set}
+use Rattle.std.specs.Prelude.{◌∷◌}
+use Rattle.rules.proofs.Common.{[], sym, ◌∙◌, length-set}
 use native.Mathlib.Omega.{arith}
 use Rattle.rules.proofs.Places.{all_stored}
 use Rattle.recording.proofs.InNumbers.{verdict_5, verdict_5', verdict_5'', verdict_told, verdict_not}

@@ -1,4 +1,5 @@
-use Rattle.rules.proofs.Common.{◌+◌, sym}
+use Rattle.std.specs.Prelude.{◌+◌}
+use Rattle.rules.proofs.Common.{sym}
 use native.Mathlib.Omega.{arith}
 use Rattle.wav.proofs.Fields.{two_at}
 use Rattle.wav.proofs.bytes.two_at.Goals as goal

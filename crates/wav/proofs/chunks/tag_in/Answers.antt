@@ -8,7 +8,12 @@ returns-then-tag-ne65534 c = rw (← c.two_at-tag.ensures.0, ne_eqb _ 65534 c.if
 
 pub returns-then-size-lt26 : goal.returns-then-size-lt26
 unfolding tag_in
-returns-then-size-lt26 c = rw (← c.two_at-tag.ensures.0, eq-eqb _ 65534 c.if-tag-ne65534.false, lt-ltb _ 26 c.if-size-lt26.true)
+returns-then-size-lt26 c = rw (
+  ← c.two_at-tag.ensures.0,
+  eq-eqb _ 65534 c.if-tag-ne65534.false,
+  lt-ltb _ 26
+      c.if-size-lt26.true,
+)
 
 pub two_at-requires : goal.two_at-requires
 two_at-requires c = c.requires.1 c.if-size-lt26.false

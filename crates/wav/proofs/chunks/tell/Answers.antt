@@ -1,5 +1,6 @@
+use Rattle.std.specs.Prelude.{◌∷◌}
 use native.Mathlib.Omega.{arith}
-use Rattle.rules.proofs.Common.{[], ◌∷◌, length-set}
+use Rattle.rules.proofs.Common.{[], length-set}
 use Rattle.rules.proofs.Places.{all_stored}
 use Rattle.wav.proofs.chunks.tell.Goals as goal
 

@@ -1,4 +1,5 @@
-use Rattle.rules.proofs.Common.{[], ◌∷◌, sym, ◌∙◌}
+use Rattle.std.specs.Prelude.{◌∷◌}
+use Rattle.rules.proofs.Common.{[], sym, ◌∙◌}
 use borrow.Author.Tests.{eq-eqb}
 use Rattle.rules.proofs.Tests.{tests}
 use Rattle.rules.proofs.Refusals.{leaves}
