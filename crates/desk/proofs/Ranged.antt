@@ -310,7 +310,8 @@ closed_range : in_range closed ≡ true
 unfolding in_range all_zero idle
 closed_range = refl
 
-let_open : (n side : ℕ) (b : Record) (len : ℕ) → side < n → len ≡ n * SHARE → in_range b ≡ true → gate n side b len 0 ≡ 0
+let_open : (n side : ℕ) (b : Record) (len : ℕ) → side < n → len ≡ n * SHARE → in_range b ≡ true
+    → gate n side b len 0 ≡ 0
 unfolding gate
 let_open n side b len h l r = rw (lt-ltb side n h, eq-eqb len (n * SHARE) l, r)
 

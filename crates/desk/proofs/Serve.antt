@@ -140,17 +140,17 @@ module _ (benches side : ℕ) (b : Record) (store : List Float) (w : Way) (m : L
       (record { answers = refl; keeps = f; writes = silent (read_of m) share })
       (a ∙ ap (λ (x : Reading). opened_of b w x) d ∙ answers w m b share)
 
-  pub misread : not p ≡ true → Worked (desk benches side b store (opening w m)) r store [] []
+  pub misread : p ≡ false → Worked (desk benches side b store (opening w m)) r store [] []
   misread h =
-      let no : passed (opened_of b w (read_of m)).reply ≡ false = rw (← d, ← a, ← q) (not-true p h) in
+      let no : passed (opened_of b w (read_of m)).reply ≡ false = rw (← d, ← a, ← q) h in
       rw (put_get (share_of side) store) at
       (left_with (get (share_of side) store) (sym (kept (read_of m) b w (get (share_of side) store) no)))
 
-  pub wiped : (start part end : ℕ) (new : List Float) → not p ≡ false → (n ≡ 0 → Lies side start part end)
+  pub wiped : (start part end : ℕ) (new : List Float) → p ≡ true → (n ≡ 0 → Lies side start part end)
       → new ≡ zeros (length (get (lent start end) store))
       → Worked (desk benches side b store (opening w m)) r (put (lent start end) store new) [] []
   wiped start part end new h place f =
-      let yes : passed (opened_of b w (read_of m)).reply ≡ true = rw (← d, ← a, ← q) (not-false p h) in
+      let yes : passed (opened_of b w (read_of m)).reply ≡ true = rw (← d, ← a, ← q) h in
       let t = through benches side b (length store) 0 (sym e ∙ z) in
       let all = length_get (share_of side) store (omega arith) in
       let same = lent_share side start part end (place z) in

@@ -28,7 +28,8 @@ use Rattle.frame.proofs.Keeps.{Keeps, call1_keeps, call2_keeps, call3_keeps, cal
 use Rattle.halves.specs.Halves as halves
 use Rattle.halves.proofs.Kept.{first_half_keeps, second_half_keeps}
 use Rattle.halves.proofs.Sister.{call2_own_keeps}
-use Rattle.pieces.specs.Pieces.{frame_part, waiting_place, waiting_in, padded_to, waits, frame_at, at_end, paused, further}
+use Rattle.pieces.specs.Pieces.{frame_part, waiting_place, waiting_in, padded_to, waits, frame_at, at_end, paused}
+use Rattle.pieces.specs.Pieces.{further}
 use Rattle.pieces.proofs.Accepted.{piece_taken, resume_taken}
 use Rattle.pieces.proofs.Halved.{first_length}
 use Rattle.pieces.proofs.Padding.{padded_none}

@@ -49,8 +49,10 @@ hearing_in ns =
 -- another bench's, the record is out of range.
 unfoldable pub record_in : ℕ → List ℕ → Record
 record_in side ns =
-    cond (eqb (length ns) RECORD && (leb (get_or ns 10 0) 1 && eqb (get_or ns 11 0) (bench_number side (get_or ns 0 0))))
-    (holding (get_or ns 0 0) (record_of 0 (hearing_in ns) (get_or ns 5 0) (get_or ns 6 0)) (get_or ns 7 0) (get_or ns 8 0)
+    cond (eqb (length ns) RECORD && (leb (get_or ns 10 0) 1
+    && eqb (get_or ns 11 0) (bench_number side (get_or ns 0 0))))
+    (holding (get_or ns 0 0) (record_of 0 (hearing_in ns) (get_or ns 5 0) (get_or ns 6 0)) (get_or ns 7 0)
+    (get_or ns 8 0)
     (get_or ns 9 0))
     (record_of 5 no_hearing 0 0)
 

@@ -1,0 +1,13 @@
+-- `desk::carried` meets its contract: each answer by the tests that lead to it. Assumes nothing.
+use borrow.Author.Rules.{rules}
+use Rattle.rules.proofs.Tests.{tests}
+use Rattle.desk.specs.Desk.{carried}
+use Rattle.desk.proofs.carried.Goals as goal
+
+pub returns-then-rest-lt480 : goal.returns-then-rest-lt480
+unfolding carried
+returns-then-rest-lt480 c = search (tests, c.holding.ensures)
+
+pub returns : goal.returns
+unfolding carried
+returns c = search (tests, c.holding-2.ensures)

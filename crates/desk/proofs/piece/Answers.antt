@@ -1,0 +1,23 @@
+-- `desk::piece` meets its contract: the gate turns it away, or the side's share is lent to `pieces::piece`.
+-- Assumes nothing.
+use borrow.Author.Rules.{rules}
+use Rattle.rules.specs.Place.{get, put}
+use Rattle.desk.proofs.Pieced.{piece_told}
+use Rattle.desk.proofs.Serve.{turned_away_lem, served}
+use Rattle.desk.proofs.piece.Goals as goal
+
+pub returns-then-number-ne0 : goal.returns-then-number-ne0
+unfolding get put
+returns-then-number-ne0 c = search turned_away_lem depth 1
+
+pub told_piece-requires : goal.told_piece-requires
+unfolding get put
+told_piece-requires c =
+    piece_told
+    _ _ _ _ _ _ c.piece-reply.ensures.answers
+
+pub returns : goal.returns
+unfolding get put
+returns c =
+    served _ _ _ _ _ _ _ _ c.admit-number.ensures.number c.if-number-ne0.false c.admit-number.ensures.share
+    c.piece-reply.ensures c.told_piece.ensures

@@ -1,0 +1,9 @@
+-- `desk::told_first` meets its contract. Assumes nothing.
+use borrow.Author.Rules.{rules}
+use Rattle.desk.proofs.Twice.{twice}
+use Rattle.desk.proofs.told_first.Goals as goal
+
+pub returns : goal.returns
+returns c =
+    let a = c.args in
+    twice a.rec a.reply c.told-first.ensures c.told.ensures
