@@ -34,10 +34,10 @@ pub(crate) fn leave(
     out: &mut [f32],
     start: usize,
 ) -> Reply
-    requires share_len { (length share.old ≡ 6144) × (hearing.index ≤ 7) × (length logs.now ≡ 22)
+    requires sizes { (length share.old ≡ 6144) × (hearing.index ≤ 7) × (length logs.now ≡ 22)
         × (start + 480 ≤ length out.old) }
-    requires model_value { passed (checked (counted hearing) (read_of model.now)) ≡ true }
-    ensures value { result
+    requires model_passes { passed (checked (counted hearing) (read_of model.now)) ≡ true }
+    ensures told { result
         ≡ (second_half (get frame_part share.old) hearing logs.now
         model.now 480).answer }
     ensures share_after { share.new
