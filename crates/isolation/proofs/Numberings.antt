@@ -38,7 +38,8 @@ unfolding kept brought
 kept_heard k n [] a e = e ∙ omega arith
 kept_heard k n (one ∷ cs) a e = kept_heard k n cs a e
 kept_heard k n (two x lag ∷ cs) a e = kept_heard (keeping k (two x lag)) (noting x lag) cs a e
-kept_heard k n (three true x logs m ∷ cs) a e = kept_heard (keeping k (three true x logs m)) n cs (a + 1) (next a k.heard e) ∙ omega arith
+kept_heard k n (three true x logs m ∷ cs) a e =
+    kept_heard (keeping k (three true x logs m)) n cs (a + 1) (next a k.heard e) ∙ omega arith
 kept_heard k n (three false x logs m ∷ cs) a e = kept_heard k n cs a e
 kept_heard k n (four ∷ cs) a e = kept_heard (keeping k four) n cs a e
 
