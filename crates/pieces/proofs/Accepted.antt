@@ -3,7 +3,8 @@
 --     Piece, piece-cleared, piece-accepted, piece-taken         a piece
 --     Resume, resume-cleared, resume-accepted, resume-taken     a resume
 -- Assumes nothing.
-use Rattle.rules.proofs.Common.{ℕ, ◌+◌, ◌-◌, ◌*◌, ◌≤◌, true, List, ◌≡◌, eqb, leb, length, Float}
+use Rattle.std.specs.Prelude.{◌+◌, ◌-◌, ◌*◌, ◌≤◌, ◌≡◌}
+use Rattle.rules.proofs.Common.{ℕ, true, List, eqb, leb, length, Float}
 use native.Mathlib.Omega.{arith}
 use borrow.Author.Tests.{eqb-true, leb-true, eq-eqb, le-leb}
 use Rattle.rules.proofs.Tests.{both}

@@ -1,6 +1,7 @@
 -- What a call can give: what holds of every refusal, and of what is right where nothing is refused, holds of the call.
 -- Assumes nothing.
-use Rattle.rules.proofs.Common.{ℕ, Bool, false, not, List, ◌≡◌, eqb, length, Float}
+use Rattle.std.specs.Prelude.{◌≡◌}
+use Rattle.rules.proofs.Common.{ℕ, Bool, false, not, List, eqb, length, Float}
 use Rattle.samples.specs.Samples.{good}
 use Rattle.model.specs.Model.{read_of}
 use Rattle.model.specs.declared.Reading.TheVariants.{Refused as Unread}

@@ -1,5 +1,6 @@
 -- Good samples stay good: together, in part, and with zeros behind them. Assumes nothing.
-use Rattle.rules.proofs.Common.{ℕ, zero, suc, true, List, [], ◌∷◌, ◌++◌, ◌≡◌, refl, get_or, take, drop, Float}
+use Rattle.std.specs.Prelude.{◌∷◌, ◌++◌, ◌≡◌}
+use Rattle.rules.proofs.Common.{ℕ, zero, suc, true, List, [], refl, get_or, take, drop, Float}
 use lib.Ieee.{le, of_bits}
 use Rattle.rules.specs.F32.{f32}
 use Rattle.rules.specs.Tab.{tab}

@@ -3,7 +3,8 @@
 --     first-length, second-length     a half keeps the length of its part
 --     first_passes, second-passes     a half, refused nothing
 -- Assumes nothing.
-use Rattle.rules.proofs.Common.{ℕ, ◌≤◌, Bool, true, false, cond, false≢true, List, [], ◌∷◌, ◌≡◌, refl, sym, ap, ◌∙◌}
+use Rattle.std.specs.Prelude.{◌≤◌, ◌∷◌, ◌≡◌}
+use Rattle.rules.proofs.Common.{ℕ, Bool, true, false, cond, false≢true, List, [], refl, sym, ap, ◌∙◌}
 use Rattle.rules.proofs.Common.{length, Float}
 use Rattle.rules.specs.Place.{get}
 use Rattle.frame.specs.Written.{all, first_in}
@@ -22,7 +23,8 @@ use Rattle.frame.specs.Reply.{passed}
 use Rattle.frame.specs.Share.{PART, kept_ex}
 use Rattle.frame.specs.Heard.{Spoken, spoken}
 use Rattle.frame.specs.Effect.{Effect, refusal}
-use Rattle.frame.specs.Frame.{plus_hundredth, silent, heard, overlapped, done1, counted, done3, modelled, call3, checked}
+use Rattle.frame.specs.Frame.{plus_hundredth, silent, heard, overlapped, done1, counted, done3, modelled, call3}
+use Rattle.frame.specs.Frame.{checked}
 use Rattle.frame.proofs.Done.{call1_done, call2_done, call3_done}
 use Rattle.halves.specs.Ways.{lag_by, remembered, forward_by}
 use Rattle.halves.specs.Halves.{looked_back, first_half, second_half}

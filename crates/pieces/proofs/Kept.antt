@@ -1,6 +1,7 @@
 -- What a call keeps, whatever it is given: a share's length; and, refused, the share and the answer buffers.
 -- Assumes nothing.
-use Rattle.rules.proofs.Common.{ℕ, Bool, true, false, cond, true≢false, List, [], ◌≡◌, refl, sym, ap, ◌∙◌, ltb, length}
+use Rattle.std.specs.Prelude.{◌≡◌}
+use Rattle.rules.proofs.Common.{ℕ, Bool, true, false, cond, true≢false, List, [], refl, sym, ap, ◌∙◌, ltb, length}
 use Rattle.rules.proofs.Common.{take, drop, Float}
 use Rattle.rules.specs.Place.{get, put}
 use Rattle.frame.specs.Written.{Written, nothing}

@@ -1,5 +1,6 @@
 -- A list with zeros behind it, number by number. Assumes nothing.
-use Rattle.rules.proofs.Common.{ℕ, zero, suc, ◌+◌, ◌-◌, ◌≤◌, ◌<◌, List, [], ◌∷◌, ◌++◌, ◌≡◌, refl, sym, ap, ◌∙◌, length}
+use Rattle.std.specs.Prelude.{◌+◌, ◌-◌, ◌≤◌, ◌<◌, ◌∷◌, ◌++◌, ◌≡◌}
+use Rattle.rules.proofs.Common.{ℕ, zero, suc, List, [], refl, sym, ap, ◌∙◌, length}
 use Rattle.rules.proofs.Common.{get_or, take, replicate}
 use Rattle.rules.proofs.Common.{length-take, length-append, Float, nan}
 use native.Mathlib.Nat.{zero-add, not-suc-le-zero, le_of_suc-le-suc}

@@ -4,7 +4,8 @@
 --     piece-refused, piece-ends, piece-pauses     the ways that a piece ends
 --     resume-refused, resume-goes                 the ways that a resume ends
 -- Assumes nothing.
-use Rattle.rules.proofs.Common.{ℕ, ◌+◌, ◌-◌, ◌*◌, ◌≤◌, ◌<◌, Bool, true, false, cond, List, [], ◌∷◌, ◌++◌, ◌≡◌, refl}
+use Rattle.std.specs.Prelude.{◌+◌, ◌-◌, ◌*◌, ◌≤◌, ◌<◌, ◌∷◌, ◌++◌, ◌≡◌}
+use Rattle.rules.proofs.Common.{ℕ, Bool, true, false, cond, List, [], refl}
 use Rattle.rules.proofs.Common.{sym, ap, ap₂, ◌∙◌, ltb, length}
 use Rattle.rules.proofs.Common.{get_or, take, drop, length-drop, length-append, Float}
 use native.Mathlib.Nat.{add-sub_cancel_left}

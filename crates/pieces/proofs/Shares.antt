@@ -3,7 +3,8 @@
 --     frame-waits, waits-frame       the one place, where the other is written
 --     waiting-back, frame_back       what was put there is what is read
 --     waits-length, frame-length     a share keeps its length
-use Rattle.rules.proofs.Common.{ℕ, ◌+◌, ◌≤◌, List, ◌++◌, ◌≡◌, sym, ◌∙◌, length, take, drop, length-take, Float}
+use Rattle.std.specs.Prelude.{◌≤◌, ◌++◌, ◌≡◌}
+use Rattle.rules.proofs.Common.{ℕ, List, sym, ◌∙◌, length, take, drop, length-take, Float}
 use native.Mathlib.Omega.{arith}
 use mathlib.Core.Logic.{inr}
 use lib.Seq.{take_at, drop_at}

@@ -2,7 +2,8 @@
 --     not-not          a row that refuses where a test does not hold
 --     by-model         the row of a model
 -- Assumes nothing.
-use Rattle.rules.proofs.Common.{ℕ, Bool, true, false, cond, not, true≢false, List, ◌≡◌, refl}
+use Rattle.std.specs.Prelude.{◌≡◌}
+use Rattle.rules.proofs.Common.{ℕ, Bool, true, false, cond, not, true≢false, List, refl}
 use borrow.Author.Tests.{not-false}
 use Rattle.model.specs.Model.{read_of}
 use Rattle.model.specs.declared.Reading.{Reading}

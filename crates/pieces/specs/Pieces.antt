@@ -1,7 +1,8 @@
 -- Dictation in pieces (request 12), on one share: a frame's part, followed by 479 places for samples that
 -- wait. A piece continues with the waiting samples and its own. A resume finishes the frame under way and
 -- continues with what is left of the piece.
-use Rattle.rules.specs.Common.{ℕ, ◌+◌, ◌-◌, ◌*◌, ◌/◌, Bool, cond, not, ◌&&◌, List, [], ◌∷◌, ◌++◌, eqb, leb, ltb, length}
+use Rattle.std.specs.Prelude.{◌+◌, ◌-◌, ◌*◌, ◌/◌, ◌&&◌, ◌∷◌, ◌++◌}
+use Rattle.rules.specs.Common.{ℕ, Bool, cond, not, List, [], eqb, leb, ltb, length}
 use Rattle.rules.specs.Common.{get_or, take, drop, Float}
 use Rattle.rules.specs.F32.{f32}
 use Rattle.rules.specs.Place.{Place, get, put}

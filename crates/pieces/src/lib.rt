@@ -1,6 +1,7 @@
 // Dictation in pieces on one share (request 12): up to 479 samples wait after a frame's part. A piece
 // completes as many frames as it can, and pauses for the logarithms of each. A refused call changes nothing.
 #![tactic(auto)]
+
 mod begin;
 mod finish;
 mod frames;

@@ -1,8 +1,8 @@
 -- `pieces::begin::piece` meets its contract: the tests turn it away, or what its parts leave makes it what the
 -- definition says. Assumes nothing.
-use Rattle.rules.proofs.Common.{ℕ, true, List, [], ◌++◌, ◌≡◌, sym, ap, ◌∙◌, length, Float}
+use Rattle.std.specs.Prelude.{◌++◌, ◌≡◌}
+use Rattle.rules.proofs.Common.{ℕ, true, List, [], sym, ap, ◌∙◌, length, Float}
 use native.Mathlib.Omega.{arith}
-use borrow.Author.Rules.{rules}
 use Rattle.samples.specs.Samples.{good}
 use Rattle.frame.specs.declared.Reply.{Reply}
 use Rattle.frame.specs.Reply.{passed}

@@ -1,5 +1,4 @@
 -- `pieces::begin::piece_fits` meets its contract. Assumes nothing.
-use borrow.Author.Rules.{rules}
 use Rattle.rules.proofs.Tests.{tests}
 use Rattle.pieces.specs.Pieces.{piece_fits}
 use Rattle.pieces.proofs.begin.piece_fits.Goals as goal

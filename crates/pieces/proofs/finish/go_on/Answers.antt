@@ -1,7 +1,7 @@
 -- `pieces::finish::go_on` meets its contract. Assumes nothing.
-use Rattle.rules.proofs.Common.{◌+◌, ◌-◌, length-take, length-drop}
+use Rattle.std.specs.Prelude.{◌+◌, ◌-◌}
+use Rattle.rules.proofs.Common.{length-take, length-drop}
 use native.Mathlib.Omega.{arith}
-use borrow.Author.Rules.{rules}
 use Rattle.pieces.proofs.Goods.{good_take, good_drop}
 use Rattle.pieces.proofs.Serve.{rest_waits, rest_begins}
 use Rattle.pieces.proofs.finish.go_on.Goals as goal
@@ -25,4 +25,5 @@ pub returns : goal.returns
 returns c =
     let n = c.enter.ensures in
     let a = c.args in
-    rest_begins a.share.now a.way a.samples.now a.from a.sums.now c.if-samples-from-lt480.false n.share_after n.sums_after
+    rest_begins a.share.now a.way a.samples.now a.from a.sums.now c.if-samples-from-lt480.false n.share_after
+    n.sums_after

@@ -1,5 +1,4 @@
 -- `pieces::finish::last_tests` meets its contract. Assumes nothing.
-use borrow.Author.Rules.{rules}
 use Rattle.rules.proofs.Common.{sym, ◌∙◌}
 use Rattle.pieces.proofs.finish.last_tests.Goals as goal
 

@@ -1,6 +1,7 @@
 -- `pieces::finish::resume` meets its contract: the tests turn it away, or what its parts leave makes it what the
 -- definition says. Assumes nothing.
-use Rattle.rules.proofs.Common.{ℕ, true, List, ◌≡◌, sym, ◌∙◌, length, Float}
+use Rattle.std.specs.Prelude.{◌≡◌}
+use Rattle.rules.proofs.Common.{ℕ, true, List, sym, ◌∙◌, Float}
 use native.Mathlib.Omega.{arith}
 use Rattle.frame.specs.declared.Hearing.{Hearing}
 use Rattle.frame.specs.declared.Reply.{Reply}

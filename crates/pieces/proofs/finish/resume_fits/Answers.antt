@@ -1,5 +1,4 @@
 -- `pieces::finish::resume_fits` meets its contract. Assumes nothing.
-use borrow.Author.Rules.{rules}
 use Rattle.rules.proofs.Tests.{tests}
 use Rattle.pieces.specs.Pieces.{resume_fits}
 use Rattle.pieces.proofs.finish.resume_fits.Goals as goal

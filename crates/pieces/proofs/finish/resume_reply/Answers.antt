@@ -1,6 +1,5 @@
 -- `pieces::finish::resume_reply` meets its contract: each answer by the tests that lead to it. Assumes nothing.
 use Rattle.rules.proofs.Common.{sym, ◌∙◌}
-use borrow.Author.Rules.{rules}
 use Rattle.rules.proofs.Tests.{tests}
 use Rattle.pieces.specs.Private.{resume_reply}
 use Rattle.pieces.proofs.finish.resume_reply.Goals as goal
@@ -15,4 +14,5 @@ returns-then-not-resume_fits c = search (tests, sym c.resume_fits.ensures ∙ c.
 
 pub returns : goal.returns
 unfolding resume_reply
-returns c = c.last_tests.ensures ∙ rw c.all_good.ensures (search (tests, sym c.resume_fits.ensures ∙ c.if-not-resume_fits.false))
+returns c = c.last_tests.ensures ∙ rw c.all_good.ensures
+    (search (tests, sym c.resume_fits.ensures ∙ c.if-not-resume_fits.false))

@@ -1,5 +1,4 @@
 -- `pieces::frames::enter` meets its contract. Assumes nothing.
-use borrow.Author.Rules.{rules}
 use Rattle.rules.specs.Place.{get, put}
 use Rattle.pieces.proofs.Serve.{entered}
 use Rattle.pieces.proofs.frames.enter.Goals as goal

@@ -1,5 +1,4 @@
 -- `pieces::frames::leave` meets its contract. Assumes nothing.
-use borrow.Author.Rules.{rules}
 use Rattle.rules.specs.Place.{get, put}
 use Rattle.pieces.proofs.Serve.{finished}
 use Rattle.pieces.proofs.frames.leave.Goals as goal

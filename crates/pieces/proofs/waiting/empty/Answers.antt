@@ -1,6 +1,6 @@
 -- `pieces::waiting::empty` meets its contract. Assumes nothing.
-use borrow.Author.Rules.{rules}
-use Rattle.rules.proofs.Common.{◌≡◌, ap, ◌∙◌, length, take, drop, length-take, length-drop}
+use Rattle.std.specs.Prelude.{◌≡◌}
+use Rattle.rules.proofs.Common.{ap, ◌∙◌, length, take, drop, length-take, length-drop}
 use native.Mathlib.Omega.{arith}
 use Rattle.frame.specs.Share.{PART}
 use Rattle.pieces.specs.Pieces.{waiting_place}

@@ -1,5 +1,4 @@
 -- `pieces::waiting::gather` meets its contract. Assumes nothing.
-use borrow.Author.Rules.{rules}
 use mathlib.Core.Path.{◌∙◌}
 use native.Mathlib.Nat.{add-sub_cancel_left}
 use Rattle.rules.specs.Place.{get, put}

@@ -1,7 +1,5 @@
 -- `pieces::waiting::join` meets its contract. Assumes nothing.
-use Rattle.rules.proofs.Common.{◌-◌, ◌≤◌, ◌++◌, ◌≡◌, length, get_or}
-use Rattle.rules.specs.F32.{f32}
-use Rattle.rules.proofs.Lists.{Filling, fills}
+use Rattle.rules.proofs.Lists.{fills}
 use Rattle.pieces.specs.Pieces.{padded_to}
 use Rattle.pieces.proofs.waiting.join.Goals as goal
 

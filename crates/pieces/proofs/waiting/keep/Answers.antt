@@ -1,6 +1,6 @@
 -- `pieces::waiting::keep` meets its contract. Assumes nothing.
-use borrow.Author.Rules.{rules}
-use Rattle.rules.proofs.Common.{◌-◌, ◌≡◌, ap, ◌∙◌, length, take, drop, length-take, length-drop}
+use Rattle.std.specs.Prelude.{◌-◌, ◌≡◌}
+use Rattle.rules.proofs.Common.{ap, ◌∙◌, length, take, drop, length-take, length-drop}
 use native.Mathlib.Omega.{arith}
 use lib.Seq.{take_all}
 use Rattle.frame.specs.Share.{PART}

@@ -1,5 +1,4 @@
 -- `pieces::waiting::settle` meets its contract. Assumes nothing.
-use borrow.Author.Rules.{rules}
 use Rattle.rules.proofs.Common.{ap, length-take, length-drop}
 use native.Mathlib.Omega.{arith}
 use Rattle.rules.proofs.Refusals.{left as fitted}
