@@ -4,7 +4,7 @@
 --     answers-length, answers-both  the answers of frames in a row
 -- Assumes nothing.
 use Rattle.std.specs.Prelude.{◌*◌, ◌∷◌, ◌++◌, ◌≡◌}
-use Rattle.rules.proofs.Common.{ℕ, zero, suc, Bool, true, false, cond, false≢true, List, [], refl}
+use Rattle.rules.proofs.Common.{ℕ, zero, suc, Bool, true, false, cond, false≢true, List, [], refl, take, drop}
 use Rattle.rules.proofs.Common.{sym, ap, ◌∙◌, length, replicate}
 use Rattle.rules.proofs.Common.{length-append, Float}
 use native.Mathlib.Omega.{arith}
@@ -27,7 +27,7 @@ use Rattle.desk.specs.Gate.{PIECE, is_due, gate, share_of}
 use Rattle.desk.specs.Desk.{piece, desk}
 use Rattle.desk.specs.Surface.{heard_of}
 use Rattle.desk.proofs.Turned.{none, through}
-use Rattle.dictation.specs.Dictation.{Lent, Told, dictate, dictated_on, dictated}
+use Rattle.dictation.specs.Dictation.{Lent, Told, dictate, dictated_on, dictated, frame_on}
 use Rattle.dictation.specs.Resuming.{Fitting}
 use Rattle.dictation.proofs.Cuts.{Row, fills_front, in_a_row}
 use Rattle.dictation.proofs.Resumes.{comes_to_its_end, accepts}
@@ -121,7 +121,9 @@ told_length : (rec : Record) (share xs : List Float) (lent : List Lent)
     → length (dictate rec share xs lent).told ≡ length lent
 unfolding dictate
 told_length rec share xs [] = refl
-told_length rec share xs (l ∷ more) = ap suc (told_length _ _ _ more)
+told_length rec share xs (l ∷ more) =
+    let o = frame_on rec share (take 480 xs) l in
+    ap suc (told_length o.answer.rec o.kept (drop 480 xs) more)
 
 -- 480 samples and three answers of each frame
 pub take_fills : (n side : ℕ) (rec : Record) (store samples : List Float) (model : List ℕ) (out answers : ℕ)
