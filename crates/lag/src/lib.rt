@@ -7,7 +7,7 @@ ghost use Rattle.rules.specs.Leaf.{Leaf};
 ghost use Rattle.lag.specs.Lag.{correlations, first_pitch, own_lag, own_number, lag_in};
 
 // The answer of `lag_of`.
-#[derive(Drop)]
+#[derive(Clone, Copy)]
 pub enum OwnLag {
     // The lag in samples.
     Lag(usize),

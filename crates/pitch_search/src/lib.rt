@@ -33,7 +33,7 @@ fn inner_prod_core(xs: &[f32], ys: &[f32], n: usize) -> f32
 }
 
 // The answer of `inner_prod`.
-#[derive(Drop)]
+#[derive(Clone, Copy)]
 pub enum Product {
     // The inner product.
     Sum(f32),
