@@ -29,7 +29,8 @@ use Rattle.model.proofs.Inverse.{number_of}
 abbrev pub EachClear : List Kind → List ℕ → List ℕ → Type 0
 EachClear [] s ns = Unit
 EachClear (k ∷ ks) s ns =
-    Clear (layer_faults k (get_or s 0 0) (get_or s 1 0) (get_or s 2 0) (take 3 ns)) × EachClear ks (drop 3 s) (drop 3 ns)
+    Clear (layer_faults k (get_or s 0 0) (get_or s 1 0) (get_or s 2 0) (take 3 ns))
+    × EachClear ks (drop 3 s) (drop 3 ns)
 
 each_clear : (j : ℕ) (ks : List Kind) (s ns : List ℕ) → Clear (row_faults j ks s ns) → EachClear ks s ns
 unfolding row_faults
@@ -46,7 +47,8 @@ module _ (s ns : List ℕ) (file buffer : ℕ) where
   abbrev together : List Row
   together = match_faults (counts_given kinds s) 0
 
-  pub bad_rows : {r : ℕ} → r ≡ fault_in (row_faults 0 kinds s ns) → Some r → r ≡ fault_in (writer_faults s ns file buffer)
+  pub bad_rows : {r : ℕ} → r ≡ fault_in (row_faults 0 kinds s ns) → Some r
+      → r ≡ fault_in (writer_faults s ns file buffer)
   unfolding writer_faults row_faults
   bad_rows e some = sym (due (λ r. r) _ (row_faults 0 kinds s ns) e some)
 
@@ -152,7 +154,8 @@ module _ (s : List ℕ) (x : Arrays) where
   length_file : length (file_of (layers_given kinds s arrays)) ≡ 18 + sum (map length arrays)
   length_file = simp length-append (omega arith)
 
-  numbered : (s : List ℕ) → ltb 2 (get_or s 2 0) ≡ false → activation_number (activation_of (get_or s 2 0)) ≡ get_or s 2 0
+  numbered : (s : List ℕ) → ltb 2 (get_or s 2 0) ≡ false
+      → activation_number (activation_of (get_or s 2 0)) ≡ get_or s 2 0
   numbered s e = number_of (get_or s 2 0) (ltb-false 2 (get_or s 2 0) e)
 
   -- the file is what was put

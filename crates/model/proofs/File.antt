@@ -34,7 +34,8 @@ reads_back ls s h =
     ∙ rw r.0 (clear (λ n. Refused n 6) (Good m) (match_faults (counts_in m) 0) h.match))
 
 pub layers_read_lem : (ls : List Layer) → FitAll kinds ls → layers_read (file_of ls) ≡ ls
-layers_read_lem ls f = rw (append-nil (file_of ls)) at (ap (λ (r : List Layer × List ℕ). r.0) (row_reads kinds ls [] f).0)
+layers_read_lem ls f = rw (append-nil (file_of ls)) at (ap (λ (r : List Layer × List ℕ). r.0)
+    (row_reads kinds ls [] f).0)
 
 -- layers that share a file are the same: no count, activation, weight or bias is lost
 pub same_layers : (ls ls' : List Layer) → FitAll kinds ls → FitAll kinds ls' → file_of ls ≡ file_of ls' → ls ≡ ls'

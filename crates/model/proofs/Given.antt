@@ -99,7 +99,8 @@ none_behind shapes given = refl
 -- ---- the layers together
 
 pub six_counts : (s : List ℕ)
-    → counts_there s 0 ∷ counts_there s 3 ∷ counts_there s 6 ∷ counts_there s 9 ∷ counts_there s 12 ∷ counts_there s 15 ∷ []
+    → counts_there s 0 ∷ counts_there s 3 ∷ counts_there s 6 ∷ counts_there s 9 ∷ counts_there s 12 ∷ counts_there s 15
+    ∷ []
     ≡ counts_given kinds s
 unfolding counts_given
 six_counts s = simp get_or-drop

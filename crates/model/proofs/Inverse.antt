@@ -141,7 +141,8 @@ AllClear (k ∷ ks) s = Clear (faults_of k s) × AllClear ks (rest_of k s)
 abbrev Reads : List Kind → List Layer → List ℕ → List ℕ → Type 0
 Reads ks ls rest s = (read_layers ks s ≡ (ls, rest)) × AllClear ks s
 
-pub row_reads : (ks : List Kind) (ls : List Layer) (rest : List ℕ) → FitAll ks ls → Reads ks ls rest (file_of ls ++ rest)
+pub row_reads : (ks : List Kind) (ls : List Layer) (rest : List ℕ) → FitAll ks ls
+    → Reads ks ls rest (file_of ls ++ rest)
 unfolding read_layers
 row_reads [] [] rest h = (refl, tt)
 row_reads (k ∷ ks) (l ∷ ls) rest h =

@@ -12,7 +12,8 @@ use Rattle.model.specs.declared.Kind.TheVariants.{Dense, Gru}
 use Rattle.model.specs.declared.Model.{Model}
 use Rattle.model.specs.declared.Reading.TheVariants.{Good, Refused}
 use Rattle.model.specs.Array.{found_in, array_in}
-use Rattle.model.specs.Layer.{size_of, activation_number, Layer, bytes_of, layer_of, faults_of, step_number, step_values}
+use Rattle.model.specs.Layer.{size_of, activation_number, Layer, bytes_of, layer_of, faults_of, step_number}
+use Rattle.model.specs.Layer.{step_values}
 use Rattle.model.specs.Layer.{step_at}
 use Rattle.model.specs.Model.{kinds, read_layers, headers_at, model_of, read_of}
 use Rattle.model.specs.Writer.{layers_given, file_of, write_model}

@@ -77,7 +77,12 @@ abbrev pub layer_of : Kind → List ℕ → Layer
 layer_of k s =
     let i = get_or s 0 0 in
     let n = get_or s 1 0 in
-    record { inputs = i; neurons = n; activation = activation_of (get_or s 2 0); arrays = cut (lengths k i n) (drop 3 s) }
+    record {
+      inputs = i;
+      neurons = n;
+      activation = activation_of (get_or s 2 0);
+      arrays = cut (lengths k i n) (drop 3 s);
+    }
 
 -- The refusals of that layer.
 abbrev pub faults_of : Kind → List ℕ → List Row

@@ -24,7 +24,8 @@ summary_of s out = refusing (5 when (length out ≠ 30) ∷ []) (λ n. n leaving
 
 -- the same of an array: the place of its first byte, and how many bytes it has
 abbrev pub array_told_in : Reading → ℕ → ℕ → List ℕ → ℕ × List ℕ
-array_told_in (Good m) layer which out = let p = array_in (found_in (Good m) layer) which in 0 leaving p.at ∷ p.size ∷ []
+array_told_in (Good m) layer which out = let p = array_in (found_in (Good m) layer) which in 0 leaving p.at ∷ p.size
+    ∷ []
 array_told_in (Refused n fault) layer which out = n + 65536 * fault leaving out
 
 unfoldable pub array_told : List ℕ → ℕ → ℕ → List ℕ → ℕ × List ℕ

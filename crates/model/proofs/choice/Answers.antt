@@ -6,7 +6,11 @@ pub returns-then-is_good : goal.returns-then-is_good
 returns-then-is_good c = rw (sym c.is_good.ensures ∙ c.if-is_good.true)
 
 pub returns-then-is_good-2 : goal.returns-then-is_good-2
-returns-then-is_good-2 c = rw (sym c.is_good.ensures ∙ c.if-is_good.false, sym c.is_good-2.ensures ∙ c.if-is_good-2.true)
+returns-then-is_good-2 c = rw (
+  sym c.is_good.ensures ∙ c.if-is_good.false,
+  sym c.is_good-2.ensures
+      ∙ c.if-is_good-2.true,
+)
 
 pub returns : goal.returns
 returns c = rw (sym c.is_good.ensures ∙ c.if-is_good.false, sym c.is_good-2.ensures ∙ c.if-is_good-2.false)

@@ -7,7 +7,8 @@ use Rattle.model.specs.Summary.{number_in}
 use Rattle.model.proofs.fill.Given as goal
 
 abbrev pub invariant-loop-i : goal.invariant-loop-i
-invariant-loop-i l = (l.i ≤ 30) × (length l.numbers ≡ 30) × (l.numbers ≡ tab l.i (number_in (read_of l.bytes)) ++ drop l.i l.initial.numbers)
+invariant-loop-i l = (l.i ≤ 30) × (length l.numbers ≡ 30)
+    × (l.numbers ≡ tab l.i (number_in (read_of l.bytes)) ++ drop l.i l.initial.numbers)
 
 abbrev pub decreases-loop-i : goal.decreases-loop-i
 decreases-loop-i l = 30 - l.i

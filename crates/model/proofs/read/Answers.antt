@@ -23,7 +23,8 @@ returns-in-Refused c =
     let s = c.args.bytes.now in
     let step = rw c.kinds_in_row-kinds.ensures at
     (sym c.in-Refused.is ∙ c.layer.ensures) in
-    sym (c.loop-layer.invariant.4 ∙ stopped s c.loop-layer.layer (take c.loop-layer.layer c.loop-layer.headers) c.loop-layer.c.at
+    sym (c.loop-layer.invariant.4 ∙ stopped s c.loop-layer.layer (take c.loop-layer.layer c.loop-layer.headers)
+    c.loop-layer.c.at
     (omega arith) step)
 
 pub loop-layer-preserved : goal.loop-layer-preserved
