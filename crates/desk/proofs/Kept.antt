@@ -72,6 +72,8 @@ unfolding desk
 refused_keeps n side b store ask e =
     let number = gate n side b (length store) (call_of ask) in
     let share = get (share_of side) store in
-    let no = sym (done_alike b ask (admitted b share ask number).answer) ∙ e in
-    (rw no, ap (put (share_of side) store) ((admitted_kept b share ask number).still no)
-    ∙ put_get (share_of side) store)
+    let no = sym (done_alike b ask (admitted b share ask number).answer) ∙ e in (
+      rw no,
+      ap (put (share_of side) store) ((admitted_kept b share ask number).still no)
+          ∙ put_get (share_of side) store,
+    )

@@ -5,12 +5,12 @@
 --     misread, wiped  an opening that gets through, whose model is refused or reads
 -- Assumes nothing.
 use Rattle.std.specs.Prelude.{◌+◌, ◌-◌, ◌≡◌}
-use Rattle.rules.proofs.Common.{ℕ, Bool, true, false, cond, not, true≢false, false≢true, List, [], refl}
+use Rattle.rules.proofs.Common.{ℕ, Bool, true, false, cond, true≢false, false≢true, List, [], refl}
 use Rattle.rules.proofs.Common.{sym, ap, ◌∙◌, length}
 use Rattle.rules.proofs.Common.{replicate, Float}
 use native.Mathlib.Nat.{add-sub_cancel_left, add-zero}
 use native.Mathlib.Omega.{arith}
-use borrow.Author.Tests.{eq-eqb, ne_eqb, not-true, not-false}
+use borrow.Author.Tests.{eq-eqb, ne_eqb}
 use Rattle.rules.specs.F32.{f32, zeros}
 use Rattle.rules.specs.Place.{Place, get, put}
 use Rattle.frame.specs.Written.{onto}

@@ -1,6 +1,7 @@
 // The desk: an opening, frame calls and pieces of dictation on one of sixteen sides of one lent store. What is refused
 // changes nothing.
 #![tactic(auto)]
+
 ghost use Rattle.std.specs.Prelude.{◌≡◌, ◌≤◌, true, [], ◌∷◌, length};
 ghost use Rattle.desk.specs.Gate.{BENCHES, side_of, idle, way_number, all_zero, in_counts, resting, under_way};
 ghost use Rattle.desk.specs.Gate.{in_pieces, in_range, is_due, gate};

@@ -1,6 +1,5 @@
 -- `desk::admit` meets its contract. Assumes nothing.
 use Rattle.std.specs.Prelude.{◌*◌, ◌<◌, ◌≡◌}
-use borrow.Author.Rules.{rules}
 use native.Mathlib.Omega.{arith}
 use Rattle.rules.proofs.Common.{ℕ, refl, sym, ◌∙◌}
 use Rattle.frame.specs.Share.{SHARE}

@@ -1,6 +1,5 @@
 -- `desk::all_zero` meets its contract: each answer by the tests that lead to it. Assumes nothing.
 use Rattle.std.specs.Prelude.{◌≡◌}
-use borrow.Author.Rules.{rules}
 use borrow.Author.Tests.{eq-eqb}
 use Rattle.rules.proofs.Common.{ℕ, true, eqb}
 use Rattle.rules.proofs.Common.{sym, ◌∙◌}

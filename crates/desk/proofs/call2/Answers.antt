@@ -1,6 +1,5 @@
 -- `desk::call2` meets its contract: the gate turns it away, or a frame's part of the side's share is lent to
 -- `frame::call2`. Assumes nothing.
-use borrow.Author.Rules.{rules}
 use Rattle.rules.specs.Place.{get, put}
 use Rattle.desk.proofs.Serve.{turned_away_lem, framed}
 use Rattle.desk.proofs.call2.Goals as goal

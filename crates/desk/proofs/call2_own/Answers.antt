@@ -1,6 +1,5 @@
 -- `desk::call2_own` meets its contract: the gate turns it away, or a frame's part of the side's share is lent to
 -- `halves::call2_own`. Assumes nothing.
-use borrow.Author.Rules.{rules}
 use Rattle.rules.specs.Place.{get, put}
 use Rattle.desk.proofs.Serve.{turned_away_lem, framed}
 use Rattle.desk.proofs.call2_own.Goals as goal

@@ -1,5 +1,4 @@
 -- `desk::carried` meets its contract: each answer by the tests that lead to it. Assumes nothing.
-use borrow.Author.Rules.{rules}
 use Rattle.rules.proofs.Tests.{tests}
 use Rattle.desk.specs.Desk.{carried}
 use Rattle.desk.proofs.carried.Goals as goal

@@ -1,6 +1,5 @@
 -- `desk::first_half` meets its contract: the gate turns it away, or a frame's part of the side's share is lent to
 -- `halves::first_half`. Assumes nothing.
-use borrow.Author.Rules.{rules}
 use Rattle.rules.specs.Place.{get, put}
 use Rattle.desk.proofs.Serve.{turned_away_lem, framed}
 use Rattle.desk.proofs.first_half.Goals as goal

@@ -1,5 +1,4 @@
 -- `desk::in_pieces` meets its contract: each answer by the tests that lead to it. Assumes nothing.
-use borrow.Author.Rules.{rules}
 use Rattle.rules.proofs.Tests.{tests}
 use Rattle.desk.specs.Gate.{in_pieces}
 use Rattle.desk.proofs.in_pieces.Goals as goal

@@ -1,5 +1,4 @@
 -- `desk::in_range` meets its contract: each answer by the tests that lead to it. Assumes nothing.
-use borrow.Author.Rules.{rules}
 use Rattle.rules.proofs.Common.{sym, ◌∙◌}
 use Rattle.rules.proofs.Tests.{tests}
 use Rattle.desk.specs.Gate.{in_range}

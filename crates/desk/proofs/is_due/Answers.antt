@@ -1,5 +1,4 @@
 -- `desk::is_due` meets its contract: each answer by the tests that lead to it. Assumes nothing.
-use borrow.Author.Rules.{rules}
 use Rattle.rules.proofs.Tests.{tests}
 use Rattle.desk.specs.Gate.{is_due}
 use Rattle.desk.proofs.is_due.Goals as goal

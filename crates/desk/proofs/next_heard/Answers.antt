@@ -1,5 +1,4 @@
 -- `desk::next_heard` meets its contract: each answer by its variant. Assumes nothing.
-use borrow.Author.Rules.{rules}
 use Rattle.desk.proofs.next_heard.Goals as goal
 
 pub returns-in-Heard : goal.returns-in-Heard

@@ -1,5 +1,4 @@
 -- `desk::next_index` meets its contract: each answer by the tests that lead to it. Assumes nothing.
-use borrow.Author.Rules.{rules}
 use Rattle.rules.proofs.Tests.{tests}
 use Rattle.desk.proofs.next_index.Goals as goal
 

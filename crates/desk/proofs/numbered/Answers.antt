@@ -1,5 +1,4 @@
 -- `desk::numbered` meets its contract. Assumes nothing.
-use borrow.Author.Rules.{rules}
 use Rattle.desk.proofs.numbered.Goals as goal
 
 pub returns : goal.returns

@@ -1,6 +1,5 @@
 -- `desk::open` meets its contract: the gate turns it away, the model is refused, or the side's share is wiped.
 -- Assumes nothing.
-use borrow.Author.Rules.{rules}
 use Rattle.rules.specs.Place.{get, put}
 use Rattle.desk.proofs.Serve.{turned_away_lem, misread, wiped}
 use Rattle.desk.proofs.open.Goals as goal

@@ -1,5 +1,4 @@
 -- `desk::opened` meets its contract: each arm by its variant. Assumes nothing.
-use borrow.Author.Rules.{rules}
 use mathlib.Core.Path.{sym, ap}
 use Rattle.model.specs.declared.Reading.{Reading}
 use Rattle.desk.specs.Private.{opened_of}

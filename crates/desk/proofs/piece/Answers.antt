@@ -1,6 +1,5 @@
 -- `desk::piece` meets its contract: the gate turns it away, or the side's share is lent to `pieces::piece`.
 -- Assumes nothing.
-use borrow.Author.Rules.{rules}
 use Rattle.rules.specs.Place.{get, put}
 use Rattle.desk.proofs.Pieced.{piece_told}
 use Rattle.desk.proofs.Serve.{turned_away_lem, served}

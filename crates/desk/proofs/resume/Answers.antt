@@ -1,6 +1,5 @@
 -- `desk::resume` meets its contract: the gate turns it away, or the side's share is lent to `pieces::resume`.
 -- Assumes nothing.
-use borrow.Author.Rules.{rules}
 use Rattle.rules.specs.Place.{get, put}
 use Rattle.desk.proofs.Pieced.{resume_told}
 use Rattle.desk.proofs.Serve.{turned_away_lem, served}

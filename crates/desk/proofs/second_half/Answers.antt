@@ -1,6 +1,5 @@
 -- `desk::second_half` meets its contract: the gate turns it away, or a frame's part of the side's share is lent to
 -- `halves::second_half`. Assumes nothing.
-use borrow.Author.Rules.{rules}
 use Rattle.rules.specs.Place.{get, put}
 use Rattle.desk.proofs.Serve.{turned_away_lem, framed}
 use Rattle.desk.proofs.second_half.Goals as goal

@@ -1,5 +1,4 @@
 -- `desk::told_first` meets its contract. Assumes nothing.
-use borrow.Author.Rules.{rules}
 use Rattle.desk.proofs.Twice.{twice}
 use Rattle.desk.proofs.told_first.Goals as goal
 

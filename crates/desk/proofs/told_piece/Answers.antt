@@ -1,7 +1,5 @@
 -- `desk::told_piece` meets its contract. Assumes nothing.
-use borrow.Author.Rules.{rules}
 use native.Mathlib.Omega.{arith}
-use Prim.Native.Nat.{◌≤◌}
 use Rattle.rules.proofs.Common.{sym, ◌∙◌}
 use Rattle.rules.proofs.Tests.{tests}
 use Rattle.desk.proofs.told_piece.Goals as goal

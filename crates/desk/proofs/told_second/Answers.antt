@@ -1,5 +1,4 @@
 -- `desk::told_second` meets its contract. Assumes nothing.
-use borrow.Author.Rules.{rules}
 use Rattle.rules.proofs.Common.{sym, ◌∙◌}
 use Rattle.rules.proofs.Tests.{tests}
 use Rattle.desk.proofs.Twice.{lastly}
