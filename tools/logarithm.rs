@@ -172,7 +172,8 @@ pub(crate) fn row_at(i: u64) -> Row
     let named: String = constants.iter().map(definition).collect();
     let text = format!(
         "-- The constants of `log10`, made by tools/make_tables.sh: by their bit patterns.
-use Rattle.rules.specs.Common.{{ℕ, ◌+◌, ◌*◌, List, [], ◌∷◌, map, Float, of_bits}}
+use Rattle.std.specs.Prelude.{{◌+◌, ◌*◌, ◌∷◌}}
+use Rattle.rules.specs.Common.{{ℕ, List, [], map, Float, of_bits}}
 use Rattle.rules.specs.F32.{{at}}
 use Rattle.rules.specs.F64.{{f64}}
 use Rattle.logs.specs.declared.table.Row.{{Row}}

@@ -101,7 +101,8 @@ pub fn all() -> [f32; {count}]
     };
     let text = format!(
         "-- {what}: by their bit patterns.
-use Rattle.rules.specs.Common.{{ℕ, List, [], ◌∷◌{}, map, Float, of_bits}}
+use Rattle.std.specs.Prelude.{{◌∷◌{}}}
+use Rattle.rules.specs.Common.{{ℕ, List, [], map, Float, of_bits}}
 use Rattle.rules.specs.F32.{{f32}}
 
 {half_row}unfoldable pub {name}_bits : List ℕ
