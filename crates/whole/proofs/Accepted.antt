@@ -100,7 +100,8 @@ module _ (n side : ℕ) (rec : Record) (store samples : List Float) (model : Lis
   take_accepted p =
       let number = gate n side rec (length store) PIECE in
       let c =
-      cleared (number refusedIf not (eqb number 0) ∷ take_rows rec (get (share_of side) store) samples model out answers)
+      cleared (number refusedIf not (eqb number 0) ∷ take_rows rec (get (share_of side) store) samples model out
+      answers)
       p in
       record {
         gated = eqb-true _ 0 (not-not _ _ c.0);

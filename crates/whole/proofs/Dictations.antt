@@ -4,7 +4,7 @@
 --     answers-length, answers-both  the answers of frames in a row
 -- Assumes nothing.
 use Rattle.std.specs.Prelude.{◌*◌, ◌∷◌, ◌++◌, ◌≡◌}
-use Rattle.rules.proofs.Common.{ℕ, zero, suc, Bool, true, false, cond, false≢true, List, [], refl, take, drop}
+use Rattle.rules.proofs.Common.{ℕ, zero, suc, Bool, true, false, cond, false≢true, List, [], refl}
 use Rattle.rules.proofs.Common.{sym, ap, ◌∙◌, length, replicate}
 use Rattle.rules.proofs.Common.{length-append, Float}
 use native.Mathlib.Omega.{arith}
@@ -27,7 +27,7 @@ use Rattle.desk.specs.Gate.{PIECE, is_due, gate, share_of}
 use Rattle.desk.specs.Desk.{piece, desk}
 use Rattle.desk.specs.Surface.{heard_of}
 use Rattle.desk.proofs.Turned.{none, through}
-use Rattle.dictation.specs.Dictation.{Lent, Told, dictate, dictated_on, dictated, frame_on}
+use Rattle.dictation.specs.Dictation.{Lent, Told, dictate, dictated_on, dictated}
 use Rattle.dictation.specs.Resuming.{Fitting}
 use Rattle.dictation.proofs.Cuts.{Row, fills_front, in_a_row}
 use Rattle.dictation.proofs.Resumes.{comes_to_its_end, accepts}
@@ -117,13 +117,11 @@ answers_both (f ∷ fs) gs =
     ∙ sym (append_assoc (heard_of f.1) (answers_of fs) (answers_of gs))
 
 -- each frame is told of
-told_length : (rec : Record) (share xs : List Float) (lent : List Lent)
+told_length : (lent : List Lent) (rec : Record) (share xs : List Float)
     → length (dictate rec share xs lent).told ≡ length lent
 unfolding dictate
-told_length rec share xs [] = refl
-told_length rec share xs (l ∷ more) =
-    let o = frame_on rec share (take 480 xs) l in
-    ap suc (told_length o.answer.rec o.kept (drop 480 xs) more)
+told_length [] rec share xs = refl
+told_length (l ∷ more) rec share xs = ap suc (told_length more _ _ _)
 
 -- 480 samples and three answers of each frame
 pub take_fills : (n side : ℕ) (rec : Record) (store samples : List Float) (model : List ℕ) (out answers : ℕ)
@@ -137,6 +135,6 @@ take_fills n side rec store samples model out answers p =
     let d = dictated_on rec share samples lent in (
       out_fills n side rec store samples model out answers p,
       answers_length d.told
-          ∙ ap (λ (k : ℕ). 3 * k) (told_length rec share (waiting_in rec.waiting share ++ samples) lent
+          ∙ ap (λ (k : ℕ). 3 * k) (told_length lent rec share (waiting_in rec.waiting share ++ samples)
           ∙ length-replicate (completes rec.waiting (length samples)) _),
     )

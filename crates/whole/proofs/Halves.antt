@@ -37,7 +37,8 @@ use Rattle.whole.proofs.Behind.{by_reply, let_in_range}
 
 -- behind a call 1 that was let through, the second half is
 third_due : (n side : ℕ) (rec : Record) (reply : Reply) (len : ℕ) → side < n → len ≡ n * SHARE → rec.due ≡ 1
-    → in_range (advanced (advanced rec reply) reply) ≡ true → gate n side (advanced (advanced rec reply) reply) len 3 ≡ 0
+    → in_range (advanced (advanced rec reply) reply) ≡ true
+    → gate n side (advanced (advanced rec reply) reply) len 3 ≡ 0
 unfolding gate is_due idle
 third_due n side rec reply len h l d range = rw (lt-ltb side n h, eq-eqb len (n * SHARE) l, range, d)
 
@@ -133,7 +134,8 @@ module _ (n side : ℕ) (rec : Record) (store samples : List Float) (model : Lis
             (frame_length share whole half.kept halved.part),
       )
 
-  ends_is : frame_ends n side rec store samples model out ≡ placed side store (frame_on rec share samples (our_lent model))
+  ends_is : frame_ends n side rec store samples model out
+      ≡ placed side store (frame_on rec share samples (our_lent model))
   ends_is =
       ap (λ (o : Effect Answer). desk n side o.answer.rec o.kept
       (second_half (logs_of (first_in o.written)) model out)) first_is ∙ second_is

@@ -37,7 +37,7 @@ use Rattle.dictation.specs.Dictation.{Lent, Dictated}
 use Rattle.dictation.proofs.Cuts.{Row, row_end, row_more, row_passes}
 use Rattle.whole.specs.Whole.{frame_rows, frame_reply, frame, take_rows, take_reply, taken_on, take}
 use Rattle.whole.specs.Laws.{frame_begins, frame_ends}
-use Rattle.desk.proofs.Turned.{none, through}
+use Rattle.desk.proofs.Turned.{through}
 use Rattle.whole.proofs.Accepted.{frame_accepted, take_accepted}
 use Rattle.whole.proofs.Behind.{by_reply, let_in_range}
 use Rattle.whole.proofs.Dictations.{take_row}

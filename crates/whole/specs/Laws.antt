@@ -37,4 +37,5 @@ abbrev pub Dictates : Type 0
 Dictates =
     (n side : ℕ) (rec : Record) (store samples : List Float) (model : List ℕ) (held : List Float) (answers : ℕ)
     → passed (take_reply n side rec store samples model (length held) answers) ≡ true
-    → (d : Dictated) × Led n side samples (handed_in n side rec store samples held) held (lent_to_each rec samples model) d
+    → (d : Dictated) × Led n side samples (handed_in n side rec store samples held) held
+    (lent_to_each rec samples model) d

@@ -65,7 +65,8 @@ take_rows rec share samples model out answers =
 
 unfoldable pub take_reply : ℕ → ℕ → Record → List Float → List Float → List ℕ → ℕ → ℕ → Reply
 take_reply n side rec store samples model out answers =
-    reply_of (gate n side rec (length store) PIECE) (take_rows rec (get (share_of side) store) samples model out answers)
+    reply_of (gate n side rec (length store) PIECE) (take_rows rec (get (share_of side) store) samples model out
+    answers)
 
 -- Each frame that these samples complete is lent the same.
 abbrev pub lent_to_each : Record → List Float → List ℕ → List Lent

@@ -1,5 +1,6 @@
 // A frame, or a piece, in one call, with our own logarithms. All refusals are tested before anything changes.
 #![tactic(auto)]
+
 mod heard;
 mod one_frame;
 mod one_piece;
