@@ -24,7 +24,7 @@ use Rattle.pieces.proofs.Accepted.{Piece}
 use Rattle.pieces.proofs.Shares.{waiting_length, waits_length}
 use Rattle.desk.specs.declared.Record.{Record}
 use Rattle.desk.specs.Gate.{share_of, gate}
-use Rattle.desk.specs.Desk.{piece, resume, holding, carried, desk}
+use Rattle.desk.specs.Desk.{resume, holding, carried, desk}
 use Rattle.dictation.specs.Dictation.{Lent, Told, Dictated, dictate, dictated}
 use Rattle.dictation.specs.Cutting.{handed_in, output_of, sums_in, Led, ended, paused, Cut, last, more, Cutting}
 use Rattle.dictation.specs.Resuming.{FillsFront}

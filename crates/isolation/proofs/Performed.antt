@@ -8,13 +8,13 @@
 --     unseen     what the share of a closed bench held is never told
 -- Assumes nothing.
 use Rattle.std.specs.Prelude.{◌*◌, ◌≤◌, ◌<◌, ◌≡◌}
-use Rattle.rules.proofs.Common.{ℕ, Bool, true, false, cond, List, refl, sym, ap, ◌∙◌, eqb, length}
+use Rattle.rules.proofs.Common.{ℕ, Bool, true, false, cond, List, refl, eqb, length}
 use Rattle.rules.proofs.Common.{Float}
 use native.Mathlib.Omega.{arith}
 use mathlib.Core.Logic.{inr}
 use borrow.Author.Tests.{ne_eqb, eqb-true}
 use Rattle.rules.specs.Place.{get}
-use Rattle.rules.proofs.Places.{length_get, put_get, get_whole, put_whole}
+use Rattle.rules.proofs.Places.{put_get, get_whole, put_whole}
 use Rattle.frame.specs.Effect.{Effect, refusal}
 use Rattle.frame.specs.Share.{SHARE}
 use Rattle.frame.specs.declared.Reply.TheVariants.{Refused}

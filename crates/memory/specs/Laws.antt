@@ -1,6 +1,6 @@
 -- What is claimed of remembered gains over heard frames. The proof is in proofs/Gains.
 use Rattle.std.specs.Prelude.{◌<◌, ◌≡◌}
-use Rattle.rules.specs.Common.{ℕ, true, false, List, length, Float, le, is_nan}
+use Rattle.rules.specs.Common.{ℕ, true, false, List, length, le, is_nan}
 use Rattle.rules.specs.F32.{at}
 use Rattle.memory.specs.Hear.{Recalled, HeardFrame, heard_all, faded}
 
