@@ -3,7 +3,7 @@
 --     sized, part_length, ready   the numbers of a feed that no row refuses
 --     turned, shut, fed           a feed that the gate turns away, one that a row refuses, and one that is neither
 -- Assumes nothing.
-use Rattle.std.specs.Prelude.{◌-◌, ◌*◌, ◌/◌, ◌≤◌, ◌<◌, ◌&&◌, ◌∷◌, ◌≡◌}
+use Rattle.std.specs.Prelude.{◌-◌, ◌*◌, ◌≤◌, ◌<◌, ◌&&◌, ◌∷◌, ◌≡◌}
 use Rattle.rules.proofs.Common.{ℕ, Bool, true, false, cond, not, true≢false, false≢true}
 use Rattle.rules.proofs.Common.{List, [], refl, sym}
 use Rattle.rules.proofs.Common.{ap, ap₂, ◌∙◌, leb, length, get_or, drop, length-take, Float, nan}
@@ -18,7 +18,7 @@ use Rattle.rules.specs.Refusals.{◌when◌, refusing}
 use Rattle.rules.specs.Tab.{tab}
 use Rattle.frame.specs.Written.{from, over, at_front}
 use Rattle.rules.proofs.Lists.{tab_same}
-use Rattle.rules.proofs.Tests.{answered_no, answered_yes, both}
+use Rattle.rules.proofs.Tests.{both}
 use Rattle.frame.specs.Effect.{Effect, refusal, Worked, WorkedBoth}
 use Rattle.frame.specs.declared.Reply.TheVariants.{Refused}
 use Rattle.frame.specs.Reply.{passed}
@@ -120,10 +120,10 @@ pub part_length : (k : ℕ) (xs : List Float) → length xs ≡ 4096 → k ≤ 4
 part_length k xs l h = simp length-take (omega arith)
 
 pub ready : (waiting cleaned records answers : ℕ) {k size : ℕ} {r : Bool}
-    → r ≡ fitting waiting k cleaned records answers → not r ≡ false → size ≡ k
+    → r ≡ fitting waiting k cleaned records answers → r ≡ true → size ≡ k
     → Ready waiting size cleaned records answers
 ready waiting cleaned records answers {k} asked h same =
-    let s = sized waiting k cleaned records answers (answered_yes asked h) in
+    let s = sized waiting k cleaned records answers (sym asked ∙ h) in
     rw same (record { few = omega (arith, s.0, s.2); room = s.3; places = s.4; told = s.5 })
 
 -- ---- the rows
@@ -176,11 +176,11 @@ module _ (n side : ℕ) (rec : Record) (store : List Float) (b : Block) (model c
           → fitting rec.waiting (block_size b) (length cleaned) (length records) (length answers) ≡ t
       answer h = ap (λ (m : ℕ). fitting rec.waiting m (length cleaned) (length records) (length answers)) (sym e) ∙ h
 
-      pub shut : not r ≡ true → Refuses given 5
-      shut h = rw (behind false (answer (answered_no asked h))) (refuses 5)
+      pub shut : r ≡ false → Refuses given 5
+      shut h = rw (behind false (answer (sym asked ∙ h))) (refuses 5)
 
       -- where the code takes what it unpacked of the block
-      pub fed : not r ≡ false → {size : ℕ} → size ≡ k → {xs : List Float}
+      pub fed : r ≡ true → {size : ℕ} → size ≡ k → {xs : List Float}
           → (UnpackFits size (length b.bytes) b.format b.channels b.channel
           → xs ≡ unpacked size b.bytes b.format b.channels b.channel)
           → {a : Answer} {s : List Float} {c d : List ℕ} {t : List Float}
@@ -188,7 +188,7 @@ module _ (n side : ℕ) (rec : Record) (store : List Float) (b : Block) (model c
           (answers ∷ []) (t ∷ []) (cleaned ∷ records ∷ []) (c ∷ d ∷ [])
           → WorkedBoth given a s (answers ∷ []) (t ∷ []) (cleaned ∷ records ∷ []) (c ∷ d ∷ [])
       fed h {size} same reads w =
-          let yes = answered_yes asked h in
+          let yes = sym asked ∙ h in
           let some : 0 < block_size b =
           omega (arith, e, (sized rec.waiting k (length cleaned) (length records) (length answers) yes).1) in
           let fits : UnpackFits size (length b.bytes) b.format b.channels b.channel =

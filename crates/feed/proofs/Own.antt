@@ -6,7 +6,7 @@ use native.Mathlib.Omega.{arith}
 use Rattle.pcm.specs.Pcm.{width, unpacked}
 use Rattle.pcm.specs.Laws.{interleaved, sample_of}
 use Rattle.pcm.proofs.Channels.{recorded_length, channels_apart}
-use Rattle.feed.specs.Feed.{Block, samples_in, block_size, samples_of}
+use Rattle.feed.specs.Feed.{Block, samples_in, block_size}
 use Rattle.feed.specs.Laws.{Carries, OwnSamples}
 use Rattle.feed.proofs.Blocks.{whole}
 

@@ -2,6 +2,7 @@
 // record of the side sheet for each frame, which carries the bench's own side. What may refuse it is tested before
 // anything changes.
 #![tactic(auto)]
+
 ghost use Rattle.std.specs.Prelude.{[], ◌∷◌, length};
 ghost use Rattle.desk.specs.Gate.{BENCHES, side_of};
 ghost use Rattle.frame.specs.Effect.{WorkedBoth};
