@@ -77,7 +77,8 @@ pub share_size : (rec : Record) (share xs : List Float) (lent : List Lent) → l
 unfolding dictate
 share_size rec share xs [] k = waits_length share k xs
 share_size rec share xs (l ∷ more) k =
-    share_size (rec_after rec share xs l) (share_after rec share xs l) (drop 480 xs) more (after_length rec share xs l k)
+    share_size (rec_after rec share xs l) (share_after rec share xs l) (drop 480 xs) more
+    (after_length rec share xs l k)
 
 -- ---- what waited before is of no account
 

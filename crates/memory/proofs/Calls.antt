@@ -29,7 +29,8 @@ use Rattle.desk.specs.declared.Answer.{Answer}
 use Rattle.frame.specs.Effect.{Effect, refusal}
 use Rattle.frame.specs.Reply.{passed, is_heard, one_more}
 use Rattle.lag.specs.Lag.{own_lag}
-use Rattle.frame.specs.Share.{SHARE, PART, input_mem, kept_x, kept_ex, kept_lag, lastg, cepstral_mem, vad_state, noise_state}
+use Rattle.frame.specs.Share.{SHARE, PART, input_mem, kept_x, kept_ex, kept_lag, lastg, cepstral_mem, vad_state}
+use Rattle.frame.specs.Share.{noise_state}
 use Rattle.frame.specs.Share.{denoise_state}
 use Rattle.frame.specs.Heard.{scaled, energies, spoken}
 use Rattle.frame.specs.Frame.{done1, put_kept, done4}
@@ -108,7 +109,8 @@ kept_noted share spectrum lag whole =
     let wex : length with-ex ≡ PART = length_put kept_ex with-x ex (omega arith) lex ∙ wx in
     let before : (q : Place) → q.at + q.size ≤ 3191 → get q (put_kept share spectrum lag) ≡ get q with-ex
     = λ q h. get_put_apart kept_lag q with-ex (of_int binary32 (pos lag) ∷ []) (omega arith) refl (inr h) in
-    let first = before kept_x (omega arith) ∙ get_put_apart kept_ex kept_x with-x ex (omega arith) lex (inr (omega arith))
+    let first = before kept_x (omega arith) ∙ get_put_apart kept_ex kept_x with-x ex (omega arith) lex
+    (inr (omega arith))
     ∙ get_put kept_x share x (omega arith) lx in
     let second = before kept_ex (omega arith) ∙ get_put kept_ex with-x ex (omega arith) lex in
     let third = ap (λ (xs : List Float). at xs 0)

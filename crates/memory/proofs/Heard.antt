@@ -16,7 +16,8 @@ use Rattle.network.proofs.Callers.{computed_done, kept}
 use Rattle.features.specs.Features.{normalised_corr, features_of, with_cepstrum}
 use Rattle.features.specs.Gains.{gained}
 use Rattle.features.proofs.Lengths.{length_gained, length_with_cepstrum, length_features}
-use Rattle.frame.specs.Share.{PART, kept_x, kept_ex, kept_lag, lastg, cepstral_mem, vad_state, noise_state, denoise_state}
+use Rattle.frame.specs.Share.{PART, kept_x, kept_ex, kept_lag, lastg, cepstral_mem, vad_state, noise_state}
+use Rattle.frame.specs.Share.{denoise_state}
 use Rattle.frame.specs.Heard.{scaled, energies, featured, rnn_of, spoken_from, spoken}
 use Rattle.memory.specs.Hear.{Recalled, next_place, hear}
 use Rattle.memory.specs.Brought.{recalled_in, heard_frame}

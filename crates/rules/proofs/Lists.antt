@@ -77,7 +77,8 @@ module _ {A : Type 0} where
       there b e = get_or-append (tab n f) (f n ∷ []) z i (rw length_tab b) ∙ e
 
   -- a part of a list, element by element
-  pub tab_get_d : (d : List A) (a k : ℕ) (z : A) → a + k ≤ length d → tab k (λ i. get_or d (a + i) z) ≡ take k (drop a d)
+  pub tab_get_d : (d : List A) (a k : ℕ) (z : A) → a + k ≤ length d
+      → tab k (λ i. get_or d (a + i) z) ≡ take k (drop a d)
   unfolding tab
   tab_get_d d a zero z h = refl
   tab_get_d d a (suc k) z h =
@@ -156,9 +157,12 @@ module _ {A : Type 0} (d : A) where
 
       there : k < n → get_or (loop n (each_place f) s) k d ≡ f k (get_or s k d)
           → get_or (loop (suc n) (each_place f) s) k d ≡ f k (get_or s k d)
-      there b e = let l = loop n (each_place f) s in get_or-set_other l n k (f n (get_or l n d)) d (λ q. omega arith) ∙ e
+      there b e =
+          let l = loop n (each_place f) s in
+          get_or-set_other l n k (f n (get_or l n d)) d (λ q. omega arith) ∙ e
 
-  pub each_tab : (f : ℕ → A → A) (s : List A) → loop (length s) (each_place f) s ≡ tab (length s) (λ j. f j (get_or s j d))
+  pub each_tab : (f : ℕ → A → A) (s : List A) → loop (length s) (each_place f) s
+      ≡ tab (length s) (λ j. f j (get_or s j d))
   each_tab f s =
       let g : ℕ → A = λ j. f j (get_or s j d) in
       let long = as_long f (length s) s in

@@ -316,7 +316,8 @@ module _ (n side : ℕ) (rec : Record) (store : List Float) where
       let sized = eqb-true (length store) (n * SHARE) (both (eqb (length store) (n * SHARE)) (in_range rec) p.1).0 in
       length_get (share_of side) store (omega arith)
 
-  whole_part_lem : in_order n side rec (length store) ≡ true → length (get frame_part (get (share_of side) store)) ≡ PART
+  whole_part_lem : in_order n side rec (length store) ≡ true
+      → length (get frame_part (get (share_of side) store)) ≡ PART
   whole_part_lem e = part_length share (whole_share e)
 
   index : in_order n side rec (length store) ≡ true → rec.hearing.index ≤ 7
@@ -406,7 +407,8 @@ module _ (n side : ℕ) (rec : Record) (store : List Float) where
   unfolding frame_reply
   frame_asks x m o =
       go (passed (frame_reply n side rec (length store) x m o)) refl
-      ∙ frame_rows_lem (gate n side rec (length store) 1) (eqb (gate n side rec (length store) 1) 0) (eqb (length x) 480)
+      ∙ frame_rows_lem (gate n side rec (length store) 1) (eqb (gate n side rec (length store) 1) 0)
+      (eqb (length x) 480)
       (eqb o 480)
       (checked (counted rec.hearing) (read_of m)) (suits rec m) (good x) refl
       ∙ gated 1 (may_ask rec 1) _ (gate_opens n side rec (length store) 1)

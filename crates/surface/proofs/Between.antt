@@ -293,7 +293,8 @@ module _ (x : List Float) (room : ℕ) (gs : List (List Float × List ℕ)) (b :
   one_piece : AllDone b xs (piece x room 22 ∷ resumes x room gs)
       → (left b xs (piece x room 22 ∷ resumes x room gs)).rec.piece ≡ 0
       → let all = waiting_in b.waiting xs ++ x in
-      Is b xs (piece x room 22 ∷ resumes x room gs) (dictate b xs all (map as_given gs)) × (length gs ≡ length all / 480)
+      Is b xs (piece x room 22 ∷ resumes x room gs) (dictate b xs all (map as_given gs))
+      × (length gs ≡ length all / 480)
   unfolding left AllDone written
   one_piece all z =
       let o = desk 1 0 b xs (piece x room 22) in

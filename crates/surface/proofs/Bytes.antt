@@ -86,7 +86,8 @@ pub bytes_to_bytes : (n : ℕ) → BytesToBytes n
 unfolding alone
 bytes_to_bytes n s inside store store' l l' calls calls' alike =
     isolated surface owned n s inside store l calls
-    ∙ ap (map (as_bench s)) (runs_alike 2 (side_of s) (own s calls) (own s calls') alike (all_zeros (zeros (2 * SHARE))))
+    ∙ ap (map (as_bench s)) (runs_alike 2 (side_of s) (own s calls) (own s calls') alike
+    (all_zeros (zeros (2 * SHARE))))
     ∙ sym (isolated surface owned n s inside store' l' calls')
 
 pub our_bytes : OurBytes

@@ -44,7 +44,8 @@ use Rattle.desk.specs.Laws.{placed}
 use Rattle.desk.specs.Surface.{record_in, reply_number, hosted}
 use Rattle.desk.proofs.Answered.{replied_by}
 use Rattle.dictation.specs.Dictation.{frame_on}
-use Rattle.whole.specs.Whole.{our_lent, reply_of, unless_refused, frame_rows, frame_reply, take_rows, take_reply, taken_on}
+use Rattle.whole.specs.Whole.{our_lent, reply_of, unless_refused, frame_rows, frame_reply, take_rows, take_reply}
+use Rattle.whole.specs.Whole.{taken_on}
 use Rattle.whole.specs.Whole as whole
 use Rattle.whole.specs.Surface.{hosted_frame, hosted_take}
 use Rattle.feed.specs.Feed.{Block, ROOM, block_size, samples_of, feed_rows, fed_by}
@@ -345,7 +346,8 @@ of_feed n side b store block model cleaned records answers = go (eqb number 0) r
 
     go : (t : Bool) → eqb number 0 ≡ t
         → Known (cond (not t) (unfed number)
-        (refusing (drop 1 (feed_rows number b.waiting (block_size block) cleaned records answers)) unfed right)).answer.reply
+        (refusing (drop 1 (feed_rows number b.waiting (block_size block) cleaned records answers)) unfed
+        right)).answer.reply
     go true e =
         gates.by_each unfed right (λ (o : Effect Answer). Known o.answer.reply)
         (drop 1 (feed_rows number b.waiting (block_size block) cleaned records answers))

@@ -40,7 +40,8 @@ use Rattle.desk.proofs.Apart.{its_own, anew}
 use Rattle.desk.proofs.Kept.{admitted_kept}
 use Rattle.dictation.specs.Dictation.{frame_on}
 use Rattle.dictation.proofs.Joins.{share_size}
-use Rattle.whole.specs.Whole.{our_lent, reply_of, unless_refused, frame_rows, frame_reply, take_rows, take_reply, lent_to_each}
+use Rattle.whole.specs.Whole.{our_lent, reply_of, unless_refused, frame_rows, frame_reply, take_rows, take_reply}
+use Rattle.whole.specs.Whole.{lent_to_each}
 use Rattle.whole.specs.Whole.{taken_on}
 use Rattle.whole.specs.Whole as whole
 use Rattle.whole.specs.Surface.{hosted_frame, hosted_take}
