@@ -30,7 +30,7 @@ use Rattle.desk.proofs.Answered.{let_in}
 use Rattle.desk.proofs.Ranged.{bounded, range_kept}
 use Rattle.desk.proofs.Turned.{none, through}
 use Rattle.dictation.specs.Dictation.{frame_on}
-use Rattle.whole.specs.Whole.{our_lent, frame_reply, frame, take_reply, taken_on, take}
+use Rattle.whole.specs.Whole.{our_lent, frame_reply, frame, take_reply, take}
 use Rattle.whole.specs.Laws.{frame_begins, frame_ends, TwoHalves}
 use Rattle.whole.proofs.Accepted.{logs_length, Frame, frame_accepted}
 use Rattle.whole.proofs.Behind.{by_reply, let_in_range}
@@ -188,7 +188,6 @@ pub take_leaves : (n side : ℕ) (rec : Record) (store samples : List Float) (mo
     → o ≡ refusal (record { reply = o.answer.reply; rec = rec }) store
 unfolding take
 take_leaves n side rec store samples model out answers =
-    by_reply (take_reply n side rec store samples model out answers) side rec store
-    (taken_on rec (get (share_of side) store) samples model)
+    by_reply (take_reply n side rec store samples model out answers) side rec store _
     (λ o. passed o.answer.reply ≡ false → o ≡ refusal (record { reply = o.answer.reply; rec = rec }) store)
     (λ _ e. absurd (true≢false e)) (λ _ _. refl)
