@@ -1,6 +1,7 @@
 -- What the number of an answer says of a leaf whose answer is an enum, and an answer that goes into one place, or into
 -- two. Assumes nothing.
-use Rattle.rules.proofs.Common.{ℕ, List, [], ◌∷◌, ◌≡◌, sym, ap, ◌∙◌, length, set}
+use Rattle.std.specs.Prelude.{◌∷◌, ◌≡◌}
+use Rattle.rules.proofs.Common.{ℕ, List, [], sym, ap, ◌∙◌, length, set}
 use native.Mathlib.Omega.{arith}
 use Rattle.rules.specs.Leaf.{Leaf, done, refused}
 

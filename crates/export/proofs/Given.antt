@@ -3,7 +3,8 @@
 --     Telling                what is known of a call with three numbers besides, by the places of `out` that it is lent
 --     three, told-three      it is lent `out`, or no place of it where `answer` has another length than three
 -- Assumes nothing.
-use Rattle.rules.proofs.Common.{ℕ, suc, ◌-◌, ◌≤◌, ◌<◌, Bool, true, false, cond, false≢true, List, [], ◌∷◌, ◌++◌, ◌≡◌}
+use Rattle.std.specs.Prelude.{◌-◌, ◌≤◌, ◌<◌, ◌∷◌, ◌++◌, ◌≡◌}
+use Rattle.rules.proofs.Common.{ℕ, suc, Bool, true, false, cond, false≢true, List, []}
 use Rattle.rules.proofs.Common.{refl, sym, ap, ap₂, ◌∙◌, eqb, length}
 use Rattle.rules.proofs.Common.{drop, Float}
 use native.Mathlib.Omega.{arith}

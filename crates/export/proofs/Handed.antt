@@ -3,7 +3,8 @@
 --     handed                   it is, and the call is what the desk gives
 --     three, handed-three      a call with three numbers besides
 -- Assumes nothing.
-use Rattle.rules.proofs.Common.{ℕ, suc, true, false, cond, List, [], ◌∷◌, ◌++◌, ◌≡◌, ap₂, length, Float}
+use Rattle.std.specs.Prelude.{◌∷◌, ◌++◌, ◌≡◌}
+use Rattle.rules.proofs.Common.{ℕ, suc, true, false, cond, List, [], ap₂, length, Float}
 use mathlib.Core.List.{append-nil}
 use Rattle.rules.specs.Place.{get, put}
 use Rattle.frame.specs.Effect.{Effect, Worked}

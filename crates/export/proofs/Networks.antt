@@ -1,5 +1,6 @@
 -- What the proofs of the network's functions cite. Assumes nothing.
-use Rattle.rules.proofs.Common.{ℕ, ◌≤◌, List, ◌≡◌, Float}
+use Rattle.std.specs.Prelude.{◌≤◌, ◌≡◌}
+use Rattle.rules.proofs.Common.{ℕ, List, Float}
 use Rattle.rules.specs.Leaf.{Leaf, done, refused}
 use Rattle.network.specs.Compute.{Outcome, computed}
 use Rattle.network.proofs.Callers.{Answered, answered}

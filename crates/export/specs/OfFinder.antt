@@ -1,5 +1,6 @@
 -- The lengths of the finder, whose answers go into lent slices, and the numbers that it keeps.
-use Rattle.rules.specs.Common.{ℕ, List, [], ◌∷◌, ◌≡◌, pos, Float, binary32, of_int}
+use Rattle.std.specs.Prelude.{◌∷◌, ◌≡◌}
+use Rattle.rules.specs.Common.{ℕ, List, [], pos, Float, binary32, of_int}
 use Rattle.rules.specs.F32.{at}
 use Rattle.finder.specs.Finder.{find}
 use Rattle.finder.specs.declared.Pitch.{Pitch}

@@ -1,5 +1,6 @@
 -- What crosses the boundary of `network` as a number: an activation, and a frame's answer.
-use Rattle.rules.specs.Common.{ℕ, ◌≤◌}
+use Rattle.std.specs.Prelude.{◌≤◌}
+use Rattle.rules.specs.Common.{ℕ}
 use Rattle.rules.specs.Leaf.{◌leaving◌}
 use Rattle.network.specs.Compute.{Layered, Outcome}
 use Rattle.network.specs.declared.Computed.{Computed}

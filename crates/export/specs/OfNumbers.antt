@@ -1,5 +1,6 @@
 -- The filter's coefficients, which cross the boundary as a slice, as its memories do.
-use Rattle.rules.specs.Common.{ℕ, List, ◌≡◌, Float}
+use Rattle.std.specs.Prelude.{◌≡◌}
+use Rattle.rules.specs.Common.{ℕ, List, Float}
 use Rattle.rules.specs.F32.{at}
 use Rattle.numbers.specs.declared.filter.Biquad.{Biquad}
 

@@ -1,5 +1,6 @@
 -- The lengths of the leaves of `pitch` whose answer goes into a lent slice.
-use Rattle.rules.specs.Common.{ℕ, ◌≡◌}
+use Rattle.std.specs.Prelude.{◌≡◌}
+use Rattle.rules.specs.Common.{ℕ}
 use Rattle.pitch_search.specs.Inner.{InnerFits}
 use Rattle.pitch_search.specs.Best.{BestFits}
 

@@ -1,5 +1,6 @@
 -- For the parts of the code.
-use Rattle.rules.specs.Common.{ℕ, ◌<◌, true, List, ◌≡◌, length}
+use Rattle.std.specs.Prelude.{◌<◌, ◌≡◌}
+use Rattle.rules.specs.Common.{ℕ, true, List, length}
 use Rattle.frame.specs.Reply.{passed}
 use Rattle.desk.specs.declared.Answer.{Answer}
 use Rattle.desk.specs.Gate.{BENCHES}

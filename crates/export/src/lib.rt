@@ -1,5 +1,6 @@
 // The static library for Rust and C: thin functions named `tuppence_…`, a module for each crate below.
 #![tactic(auto)]
+
 pub mod of_bands;
 pub mod of_desk;
 pub mod of_feed;

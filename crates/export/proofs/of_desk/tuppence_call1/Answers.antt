@@ -1,0 +1,13 @@
+-- `tuppence_call1` meets its contract: it is the call of the desk, and its answer is handed back as numbers.
+-- Assumes nothing.
+use mathlib.Core.Path.{refl}
+use Rattle.export.proofs.Handed.{hands_back, handed}
+use Rattle.export.proofs.of_desk.tuppence_call1.Goals as goal
+
+pub hand_back-requires : goal.hand_back-requires
+hand_back-requires c = hands_back _ _ _ _ _ _ _ _ _ c.record_in.ensures c.call1-given.ensures
+
+pub returns : goal.returns
+returns c =
+    handed _ _ _ _ _ _ _ _ _ c.record_in.ensures c.call1-given.ensures
+    c.hand_back.ensures refl
