@@ -18,8 +18,7 @@ ghost use Rattle.desk.specs.Desk.{record_of, no_hearing, opening, call1, call2, 
 ghost use Rattle.desk.specs.Desk.{second_half, piece, resume};
 ghost use Rattle.frame.specs.Effect.{Worked};
 ghost use Rattle.desk.specs.Surface.{RECORD, bench_number, numbers_of, way_in, hearing_in, record_in, reply_number};
-ghost use Rattle.desk.specs.Surface.{heard_of};
-ghost use Rattle.desk.specs.Surface.{out_of, hosted, handed};
+ghost use Rattle.desk.specs.Surface.{heard_of, out_of, hosted, handed};
 ghost use Rattle.desk.proofs.Ranged.{Bounded};
 ghost use Rattle.desk.proofs.Replies.{SmallSeven};
 ghost use Rattle.export.specs.Private.{HandsBack};

@@ -1,5 +1,5 @@
 -- `hand_back` meets its contract. Assumes nothing.
-use Rattle.std.proofs.Common.{sym, ◌∙◌}
+use Rattle.rules.proofs.Common.{sym, ◌∙◌}
 use Rattle.export.proofs.of_desk.hand_back.Goals as goal
 
 pub returns-then-not-passed : goal.returns-then-not-passed

@@ -1,7 +1,7 @@
 -- `record_in` meets its contract. Assumes nothing.
 use Rattle.std.specs.Prelude.{◌≤◌, ◌≡◌}
 use borrow.Author.Tests.{eq-eqb, le-leb}
-use Rattle.rules.proofs.Common.{ℕ, true, false, List, sym, ◌∙◌, eqb, length, get_or}
+use Rattle.rules.proofs.Common.{ℕ, true, false, List, eqb, length, get_or, sym, ◌∙◌}
 use Rattle.rules.proofs.Tests.{tests}
 use Rattle.frame.specs.declared.Hearing.{Hearing}
 use Rattle.desk.specs.declared.Record.{Record}

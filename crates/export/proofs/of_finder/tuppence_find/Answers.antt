@@ -1,7 +1,7 @@
 -- `tuppence_find` meets its contract: a period is at most 767, so that nothing is lost in 32 bits, nor in an f32.
 -- Assumes nothing.
 use Rattle.std.specs.Prelude.{◌≤◌, ◌≡◌}
-use Rattle.rules.proofs.Common.{ℕ, suc, List, Float, refl, sym, ap, ◌∙◌, length, length-set, pos, binary32, of_int}
+use Rattle.rules.proofs.Common.{List, Float, ℕ, refl, sym, ap, ◌∙◌, length, length-set, pos, binary32, of_int}
 use native.Mathlib.Omega.{arith}
 use Rattle.rules.specs.F32.{at}
 use Rattle.rules.specs.Leaf.{Leaf, done, refused}
@@ -14,15 +14,16 @@ use Rattle.export.specs.OfFinder.{found_after}
 use Rattle.export.proofs.Answers.{turned_down, taken_up, stored, stored_two}
 use Rattle.export.proofs.of_finder.tuppence_find.Goals as goal
 
--- an answer whose number is 0 is a pitch
-found : (numbers mem : List Float) {Fits : Type 0} {got : Found} {n number period : ℕ}
-    → Leaf Fits got (Found.At (found_after numbers mem)) (Found.Refused (suc n))
+-- what is found where the finder's number is 0: a pitch, and its period
+known : (numbers mem : List Float) {got : Found} {number period : ℕ}
+    → Leaf (length mem ≡ 1728) got (Found.At (found_after numbers mem)) (Found.Refused 5)
     → number ≡ found_number got → number ≡ 0 → period ≡ period_in got
-    → Fits × (got ≡ Found.At (found_after numbers mem)) × (period ≡ (found_after numbers mem).period) × (period ≤ 767)
-found numbers mem leaf told none is =
-    let t = taken_up found_number leaf (λ z. omega arith) (sym told ∙ none) in
-    let same = is ∙ ap period_in t.1 in
-    (t.0, t.1, same, rw same (period_in_range (at numbers 0) (at numbers 1) mem).1)
+    → (length mem ≡ 1728) × (got ≡ Found.At (found_after numbers mem))
+    × (period ≡ (found_after numbers mem).period) × (period ≤ 767)
+known numbers mem e n zero p =
+    let up = taken_up found_number e (λ z. omega arith) (sym n ∙ zero) in
+    let same = p ∙ ap period_in up.1 in
+    (up.0, up.1, same, rw same (period_in_range (at numbers 0) (at numbers 1) mem).1)
 
 pub returns-then-numbers-ne2 : goal.returns-then-numbers-ne2
 returns-then-numbers-ne2 c = refused (λ fits. c.if-numbers-ne2.true fits.two) refl
@@ -38,27 +39,30 @@ returns-then-number-ne0 c =
 
 pub int_to_float-numbers : goal.int_to_float-numbers
 int_to_float-numbers c =
-    let t = found c.args.numbers.now c.args.input_mem.now c.find-found.ensures c.number-number.ensures
-    c.if-number-ne0.false c.period-period.ensures in
-    casts _ (omega (arith, t.3))
+    let a = c.args in
+    let k = known a.numbers.now a.input_mem.now c.find-found.ensures c.number-number.ensures c.if-number-ne0.false
+    c.period-period.ensures in
+    casts _ (omega (arith, k.3))
 
 pub bounds-numbers-1-2 : goal.bounds-numbers-1-2
 bounds-numbers-1-2 c = simp length-set (omega arith)
 
 pub overflow_cast-place : goal.overflow_cast-place
 overflow_cast-place c =
-    let t = found c.args.numbers.now c.args.input_mem.now c.find-found.ensures c.number-number.ensures
-    c.if-number-ne0.false c.period-period.ensures in
-    omega (arith, t.3)
+    let a = c.args in
+    let k = known a.numbers.now a.input_mem.now c.find-found.ensures c.number-number.ensures c.if-number-ne0.false
+    c.period-period.ensures in
+    omega (arith, k.3)
 
 pub returns : goal.returns
 returns c =
     let a = c.args in
-    let t = found a.numbers.now a.input_mem.now c.find-found.ensures c.number-number.ensures
-    c.if-number-ne0.false c.period-period.ensures in
+    let k = known a.numbers.now a.input_mem.now c.find-found.ensures c.number-number.ensures c.if-number-ne0.false
+    c.period-period.ensures in
     let two : length a.numbers.now ≡ 2 = omega arith in
     let one : length a.place.now ≡ 1 = omega arith in
-    done (record { two = two; one = one; whole = t.0 })
+    done (record { two = two; one = one; whole = k.0 })
     (leave_both
-    (stored_two a.numbers.now two (ap (λ (n : ℕ). of_int binary32 (pos n)) t.2) (c.gain.ensures ∙ ap gain_in t.1))
-    (stored a.place.now one t.2))
+    (stored_two a.numbers.now two (ap (λ (n : ℕ). of_int binary32 (pos n)) k.2)
+    (c.gain.ensures ∙ ap gain_in k.1))
+    (stored a.place.now one k.2))
