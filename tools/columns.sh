@@ -9,10 +9,10 @@ list=$(mktemp)
 trap 'rm -f "$list"' EXIT
 # a column is a character, whatever its bytes
 export LC_ALL=C.UTF-8
-find crates host oracle bindings tools .ci -type f \
+find crates host oracle bindings tools .ci -regextype posix-extended -type f \
     \( -name '*.rt' -o -name '*.antt' -o -name '*.edit' -o -name '*.rs' -o -name '*.sh' -o -name '*.py' -o -name '*.c' \
     -o -name '*.h' -o -name '*.js' -o -name '*.css' -o -path '.ci/run' \) \
-    -not -path '*/target/*' -not -path 'crates/*/out/*' -print0 |
+    -not -path '*/target/*' -not -regex 'crates/[^/]+/out/.*' -print0 |
     LC_ALL=C sort -z | xargs -0 grep -nHE '^.{121}' | grep -vE '^[^:]*\.edit:[0-9]*:(old|new):' |
     cut -d : -f 1,2 >"$list" || true
 lines=$(wc -l <"$list")

@@ -84,10 +84,13 @@ fn read(path: &Path, comment: &str) -> Source {
     Source { text, uses, handed }
 }
 
-/// Notes what `Rattle.CRATE.specs.FILE.{a, b as c}` brings.
+/// Notes what `Rattle.CRATE.specs.FILE.{a, b as c}` brings, of a crate of this repository and not of the library.
 fn note(path: &str, uses: &mut BTreeMap<String, Name>) {
     let Some((module, names)) = path.split_once(".{") else { return };
     let Some((krate, file)) = module.strip_prefix("Rattle.").and_then(|m| m.split_once(".specs.")) else { return };
+    if !Path::new("crates").join(krate).exists() {
+        return;
+    }
     for name in names.split('}').next().unwrap().split(',') {
         let (name, local) = name.split_once(" as ").unwrap_or((name, name));
         uses.insert(local.trim().into(), (krate.into(), file.into(), name.trim().into()));
@@ -155,8 +158,12 @@ fn contracts(text: &str) -> String {
         let start = line.trim_start();
         if start.starts_with("pub fn ") || start.starts_with("pub extern ") {
             head = true;
-        }
-        if head {
+            // the function's own name is no citation of a definition that has the same name
+            let (before, behind) = line.split_once('(').unwrap_or(("", line));
+            found.push_str(before.split("fn ").next().unwrap_or(""));
+            found.push_str(behind);
+            found.push('\n');
+        } else if head {
             found.push_str(line);
             found.push('\n');
         }

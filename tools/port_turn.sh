@@ -10,7 +10,7 @@ cd "$1"
 # that was turned already.
 sed -i 's/\bso_far\b/soFar/g; s/l \.so-far/l .so-far/' crates/samples/proofs/all_good/Proof.antt
 git -c user.name=port -c user.email=port@localhost commit -qam "One local name"
-python3 /opt/rattle/port/port.py
+python3 "$(dirname "$(dirname "$(realpath "$(command -v rt)")")")/port/port.py"
 python3 "$here/port_names.py" .
 python3 "$here/port_values.py" .
 python3 "$here/port_edits.py" .

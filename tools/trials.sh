@@ -16,7 +16,8 @@ copy_crates() {
     local to=$1
     shift
     mkdir -p "$to"
-    find "$@" -type f -not -path 'crates/*/out/*' -print0 | xargs -0 cp --parents -t "$to"
+    find "$@" -regextype posix-extended -type f -not -regex 'crates/[^/]+/out/.*' -print0 |
+        xargs -0 cp --parents -t "$to"
 }
 
 # A copy of what the checks read, the compiled checkers among it.
@@ -95,6 +96,12 @@ premise_of_a_module() {
     grep -q '^pub same_end : SameEnd$' $file || return 1
     # the law and what follows it, in a module with a parameter
     sed -i -e '/^pub same_end : SameEnd$/,$ s/^./  &/' -e 's/^  pub same_end /module _ (never : ⊥) where\n&/' $file
+}
+# the law is typed by a word of the library, and by nothing that specs/ states
+library_word() {
+    replace crates/checksum/proofs/Apart.antt 'pub same_end : SameEnd' 'pub same_end : T true' || return 1
+    own crates/checksum/proofs/Apart.antt
+    sed -i '0,/^use /s//use Rattle.std.specs.Prelude.{T, true}\nuse /' crates/checksum/proofs/Apart.antt
 }
 other_statement() { replace docs/PROMISES.md '| `our_calls` |' '| `refused_leaves` |'; }
 
@@ -185,6 +192,7 @@ not_tried() { printf 'file: src/lib.rt\nold: x\nnew: y\n' >crates/checksum/must-
 
 quick() {
     trial impossible_premise 'Apart.antt: same_end' impossible_premise definitions unstated
+    trial library_word 'Apart.antt: same_end' library_word definitions unstated
     trial premise_of_a_module 'Apart.antt: same_end' premise_of_a_module definitions unstated
     trial other_statement 'refused_leaves is not a proof of what is stated there' other_statement definitions unstated
     trial no_ensures 'tuppence_sneak: it has no `ensures`' no_ensures public contracts
