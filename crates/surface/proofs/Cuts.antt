@@ -136,6 +136,10 @@ bytes_in_a_row n s st calls format channels channel model bytes k =
 pub however_cut : HoweverCut
 however_cut n s st st' calls calls' format channels channel channels' channel' model bytes bytes' k k' alike e f =
     bytes_in_a_row n s st calls format channels channel model bytes k
-    ∙ rw (e, f, samples_alike (block_of bytes format channels channel) (block_of bytes' format channels' channel')
-    alike)
+    ∙ rw (
+      e,
+      f,
+      samples_alike (block_of bytes format channels channel) (block_of bytes' format channels' channel')
+          alike,
+    )
     (sym (bytes_in_a_row n s st' calls' format channels' channel' model bytes' k'))
