@@ -34,8 +34,8 @@ is_proved() {
     [ "$(sed -n 3p $note)" = "$(sum $archive)" ] && [ "$(sed -n 1p $note)" = "$held" ]
 }
 
-# How many crates the library is made of: export_c, and all that it stands on.
-count() {
+# The crates that the library is made of, in the order of crates.txt, which has the lowest first.
+made_of() {
     local -A below=() seen=()
     local line name queue=(export_c)
     while IFS= read -r line; do
@@ -49,20 +49,31 @@ count() {
         # shellcheck disable=SC2206
         seen[$name]=1 queue+=(${below[$name]:-})
     done
-    echo ${#seen[@]}
+    while IFS= read -r line; do
+        name=${line%%:*} name=${name%% *}
+        if [ -n "$name" ] && [ -n "${seen[$name]:-}" ]; then echo "$name"; fi
+    done <crates.txt
 }
 
-# Of what rt says, the crates that are proved, each once: it names a crate, and says next whether that is proved.
+# Proves a crate. What rt says of it is in target/library/, and is told if it isn't proved: then no other is begun.
+prove_one() {
+    local log=$PWD/target/library/$1.log
+    (cd "crates/$1" && rt lib) >"$log" 2>&1 && echo "$1 is proved" || { cat "$log"; exit 255; }
+}
+
+# As many at a time as there are processors. A crate waits for those below it that another one is proving.
+prove() {
+    mkdir -p target/library
+    export -f prove_one
+    made_of | xargs -P "$(nproc 2>/dev/null || echo 2)" -I{} bash -c 'prove_one {}'
+}
+
+# Numbers the crates that are proved, and passes on nothing else.
 tell() {
-    local line name='' told=' ' at=0 all
-    all=$(count)
+    local line at=0 all=$1
     while IFS= read -r line; do
         case $line in
-        'crate '*': '*) line=${line#crate } name=${line%%:*} ;;
-        'logic=proved '*)
-            if [[ -z $name || $told = *" $name "* ]]; then continue; fi
-            told+="$name " at=$((at + 1))
-            echo "  $at of at most $all: $name is proved" ;;
+        *' is proved') at=$((at + 1)) && echo "  $at of $all: $line" ;;
         esac
     done
 }
@@ -80,7 +91,7 @@ command -v rt >/dev/null || {
 }
 echo "Proving the library, crate by crate: about half an hour in all on an idle machine where none is proved yet."
 mkdir -p target/staticlib
-(cd crates/export_c && rt lib 2>&1) | tee target/box.log | tell || {
+prove | tee target/box.log | tell "$(made_of | wc -l)" || {
     echo "not proved; target/box.log says why"
     exit 1
 }

@@ -55,11 +55,9 @@ fn repository(name: &str) -> PathBuf {
         let place = std::env::split_paths(&places).map(|place| place.join(tool)).find(|place| place.exists());
         symlink(place.unwrap_or_else(|| panic!("{tool}")), path.join("bin").join(tool)).unwrap();
     }
-    // it runs in the folder of export_c
+    // it runs in the folder of a crate
     let rt = "echo \"$*\" >>../../rt-was-called\n\
-              for name in export export_c; do\n\
-              echo \"crate $name: modules loaded=0 checked=1\"; echo \"logic=proved functions=1\"\n\
-              done\n\
+              echo \"logic=proved functions=1\"\n\
               if [ \"$1\" = lib ]; then mkdir -p out; cp ../export/src/lib.rt out/libexport_c.a; fi\n";
     write_script(&path.join("kit/bin/rt"), rt);
     symlink("../kit/bin/rt", path.join("bin/rt")).unwrap();
@@ -111,10 +109,10 @@ fn calls(path: &Path) -> usize {
 fn what_is_proved_is_asked_by_what_the_crates_hold() {
     let path = repository("proved");
     let first = run(&path, &["side", "a b"]);
-    assert_eq!((first.status, calls(&path)), (Some(0), 1), "{}", first.why);
+    assert_eq!((first.status, calls(&path)), (Some(0), 2), "{}", first.why);
     // what the program says stands alone; of cargo nothing is shown
     assert_eq!(first.said, format!("{}: side a b\n", path.canonicalize().unwrap().display()));
-    let told = first.why.contains("1 of at most 2: export is proved") && first.why.contains(": export_c is proved");
+    let told = first.why.contains("  2 of 2: export") && first.why.contains(": export is proved");
     assert!(told && !first.why.contains("Compiling"), "{}", first.why);
     let quiet = |why: &str| {
         let again = run(&path, &["side"]);
@@ -128,21 +126,21 @@ fn what_is_proved_is_asked_by_what_the_crates_hold() {
     fs::write(path.join("crates/export/must-fail/one.edit"), "no part of it").unwrap();
     quiet("an edit that must fail");
     fs::write(path.join("crates/export/out.txt"), "one").unwrap();
-    assert_eq!((run(&path, &["side"]).status, calls(&path)), (Some(0), 1));
-    fs::create_dir(path.join("crates/export/out")).unwrap();
+    assert_eq!((run(&path, &["side"]).status, calls(&path)), (Some(0), 2));
+    fs::create_dir_all(path.join("crates/export/out")).unwrap();
     fs::write(path.join("crates/export/out/kept"), "no part of it").unwrap();
     quiet("what rt keeps");
     // what has changed is proved, and with an older time too
     fs::write(&lib, "two").unwrap();
     File::options().write(true).open(&lib).unwrap().set_modified(SystemTime::UNIX_EPOCH).unwrap();
-    assert_eq!((run(&path, &["side"]).status, calls(&path)), (Some(0), 1));
+    assert_eq!((run(&path, &["side"]).status, calls(&path)), (Some(0), 2));
     quiet("it is proved");
     // an archive that is not the noted one
     fs::write(path.join("target/staticlib/libexport.a"), "another").unwrap();
-    assert_eq!((run(&path, &["side"]).status, calls(&path)), (Some(0), 1));
+    assert_eq!((run(&path, &["side"]).status, calls(&path)), (Some(0), 2));
     // and one that has no note
     fs::remove_file(path.join("target/staticlib/made-of")).unwrap();
-    assert_eq!((run(&path, &["side"]).status, calls(&path)), (Some(0), 1));
+    assert_eq!((run(&path, &["side"]).status, calls(&path)), (Some(0), 2));
     assert!(fs::read_to_string(path.join("target/staticlib/made-of")).unwrap().contains("kit 9\n"));
 }
 
