@@ -7,6 +7,8 @@ import os
 import re
 import sys
 
+from port_files import rewrite
+
 KIT = os.path.realpath(os.path.join(os.path.dirname(os.path.realpath(os.popen("command -v rt").read().strip())), ".."))
 with open(os.path.join(KIT, "rattle/std/specs/Prelude.antt"), encoding="utf-8") as f:
     SYMBOLS = {it for it in re.findall(r"[^\s{},]+", f.read()) if "◌" in it}
@@ -48,15 +50,4 @@ def turn(text, path):
     return text.replace("\0\n", "")
 
 
-for crate in sys.argv[2:]:
-    for folder, dirs, names in os.walk(os.path.join(root, "crates", crate)):
-        dirs[:] = [d for d in dirs if d != "out"]
-        for name in sorted(names):
-            if name.endswith(".antt"):
-                path = os.path.join(folder, name)
-                with open(path, encoding="utf-8") as f:
-                    text = f.read()
-                new = turn(text, path)
-                if new != text:
-                    with open(path, "w", encoding="utf-8") as f:
-                        f.write(new)
+rewrite(root, sys.argv[2:], ".antt", turn)

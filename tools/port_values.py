@@ -4,9 +4,10 @@
 
 usage: tools/port_values.py [ROOT]
 """
-import os
 import re
 import sys
+
+from port_files import rewrite
 
 ROOT = sys.argv[1] if len(sys.argv) > 1 else "."
 FN = re.compile(r"\bfn\s+\w+")
@@ -42,14 +43,4 @@ def turn(text, path):
     return "".join(parts)
 
 
-for folder, dirs, names in os.walk(os.path.join(ROOT, "crates")):
-    dirs[:] = [d for d in dirs if d != "out"]
-    for name in names:
-        if name.endswith(".rt"):
-            path = os.path.join(folder, name)
-            with open(path, encoding="utf-8") as f:
-                text = f.read()
-            new = turn(text, path)
-            if new != text:
-                with open(path, "w", encoding="utf-8") as f:
-                    f.write(new)
+rewrite(ROOT, None, ".rt", turn)
