@@ -89,7 +89,7 @@ command -v rt >/dev/null || {
         "put its bin folder into PATH"
     exit 1
 }
-echo "Proving the library, crate by crate: about half an hour in all on an idle machine where none is proved yet."
+echo "Proving the library, crate by crate: about twenty minutes in all on an idle machine where none is proved yet."
 mkdir -p target/staticlib
 prove | tee target/box.log | tell "$(made_of | wc -l)" || {
     echo "not proved; target/box.log says why"
