@@ -19,7 +19,7 @@ use Rattle.model.specs.declared.Reading.TheVariants.{Good, Refused as Unread}
 use Rattle.frame.specs.Share.{SHARE}
 use Rattle.frame.specs.Effect.{Effect, refusal}
 use Rattle.frame.specs.Reply.{passed}
-use Rattle.frame.specs.declared.Reply.TheVariants.{Refused}
+use Rattle.frame.specs.Reply.{Refused}
 use Rattle.frame.specs.declared.Way.{Way}
 use Rattle.desk.specs.declared.Answer.{Answer}
 use Rattle.desk.specs.declared.Record.{Record}

@@ -15,8 +15,8 @@ use Rattle.frame.specs.Reply.{passed}
 use Rattle.frame.specs.Share.{SHARE, PART}
 use Rattle.frame.specs.Effect.{Effect}
 use Rattle.frame.specs.Frame as frame
-use Rattle.frame.specs.declared.Reply.{Reply}
-use Rattle.frame.specs.declared.Reply.TheVariants.{Done}
+use Rattle.frame.specs.Reply.{Reply}
+use Rattle.frame.specs.Reply.{Done}
 use Rattle.frame.specs.declared.Way.{Way}
 use Rattle.frame.proofs.Cases.{call1_by}
 use Rattle.frame.proofs.Keeps.{call1_keeps, call3_keeps}

@@ -21,7 +21,7 @@ use Rattle.model.specs.declared.Reading.TheVariants.{Good, Refused as Unread}
 use Rattle.frame.specs.Share.{SHARE, PART}
 use Rattle.frame.specs.Effect.{Effect, Worked}
 use Rattle.frame.specs.Reply.{passed}
-use Rattle.frame.specs.declared.Reply.{Reply}
+use Rattle.frame.specs.Reply.{Reply}
 use Rattle.frame.specs.declared.Way.{Way}
 use Rattle.pieces.specs.Pieces.{frame_part, in_part}
 use Rattle.desk.specs.declared.Record.{Record}

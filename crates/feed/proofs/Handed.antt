@@ -20,7 +20,7 @@ use Rattle.frame.specs.Written.{from, over, at_front}
 use Rattle.rules.proofs.Lists.{tab_same}
 use Rattle.rules.proofs.Tests.{both}
 use Rattle.frame.specs.Effect.{Effect, refusal, Worked, WorkedBoth}
-use Rattle.frame.specs.declared.Reply.TheVariants.{Refused}
+use Rattle.frame.specs.Reply.{Refused}
 use Rattle.frame.specs.Reply.{passed}
 use Rattle.pieces.specs.Pieces.{completes, piece_fits}
 use Rattle.desk.specs.declared.Answer.{Answer}

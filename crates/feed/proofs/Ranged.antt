@@ -11,7 +11,7 @@ use lib.Ieee.{eq}
 use Rattle.rules.specs.F32.{f32}
 use Rattle.rules.proofs.Refusals.{by_rows}
 use Rattle.frame.specs.Effect.{Effect, refusal}
-use Rattle.frame.specs.declared.Reply.TheVariants.{Refused}
+use Rattle.frame.specs.Reply.{Refused}
 use Rattle.desk.specs.declared.Answer.{Answer}
 use Rattle.frame.specs.Reply.{passed}
 use Rattle.desk.specs.declared.Record.{Record}

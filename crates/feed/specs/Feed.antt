@@ -9,7 +9,7 @@ use Rattle.rules.specs.F32.{f32, at}
 use Rattle.rules.specs.Refusals.{Row, ◌when◌, refusing}
 use Rattle.rules.specs.Tab.{tab}
 use Rattle.frame.specs.Written.{Written, from, front, numbers_in, first_in}
-use Rattle.frame.specs.declared.Reply.TheVariants.{Refused}
+use Rattle.frame.specs.Reply.{Refused}
 use Rattle.pieces.specs.Pieces.{completes, piece_fits}
 use Rattle.desk.specs.declared.Answer.{Answer}
 use Rattle.desk.specs.declared.Record.{Record}

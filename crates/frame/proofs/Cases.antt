@@ -12,10 +12,10 @@ use Rattle.model.specs.declared.Reading.{Reading}
 use Rattle.model.specs.declared.Reading.TheVariants.{Good, Refused as Unread}
 use Rattle.features.specs.Silence.{energy, is_silent}
 use Rattle.frame.specs.declared.Hearing.{Hearing}
-use Rattle.frame.specs.declared.Reply.TheVariants.{Refused, Misread}
+use Rattle.frame.specs.Reply.{Refused, Misread}
 use Rattle.frame.specs.Share.{PART, kept_ex}
 use Rattle.frame.specs.Heard.{spoken}
-use Rattle.frame.specs.declared.Reply.{Reply}
+use Rattle.frame.specs.Reply.{Reply}
 use Rattle.frame.specs.Effect.{Effect, refusal, unless}
 use Rattle.frame.specs.Reply.{passed, ◌refusedIf◌}
 use Rattle.frame.specs.Frame.{wrong, done1, call1, done2, call2, silent, heard, done3, counted, modelled, call3}

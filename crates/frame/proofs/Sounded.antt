@@ -7,7 +7,7 @@ use Rattle.features.specs.Silence.{energy, is_silent, sound_of}
 use Rattle.features.specs.declared.Sound.{Sound}
 use Rattle.features.specs.declared.Sound.TheVariants as sound
 use Rattle.model.specs.declared.Model.{Model}
-use Rattle.frame.specs.declared.Reply.TheVariants.{Silent}
+use Rattle.frame.specs.Reply.{Silent}
 use Rattle.frame.specs.Share.{kept_x, kept_ex}
 use Rattle.frame.specs.Heard.{Spoken, spoken}
 use Rattle.frame.specs.Effect.{Worked}

@@ -22,8 +22,8 @@ pub use Rattle.frame.specs.Share.{PART}
 use Rattle.frame.specs.Share.{input_mem, synthesis_mem, kept_x, kept_ex, kept_lag, mem_hp_x}
 use Rattle.frame.specs.Heard.{scaled, energies, Spoken, spoken}
 use Rattle.frame.specs.declared.Hearing.{Hearing}
-use Rattle.frame.specs.declared.Reply.{Reply}
-use Rattle.frame.specs.declared.Reply.TheVariants.{Done, Silent, Heard, Refused, Misread}
+use Rattle.frame.specs.Reply.{Reply}
+use Rattle.frame.specs.Reply.{Done, Silent, Heard, Refused, Misread}
 
 -- ---- call 1, from `shift_and_filter_input` and `transform_input` of features.rs
 

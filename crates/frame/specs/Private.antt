@@ -7,8 +7,8 @@ use Rattle.model.specs.declared.Reading.TheVariants.{Good}
 use Rattle.features.specs.declared.Sound.{Sound}
 use Rattle.features.specs.declared.Sound.TheVariants as sound
 use Rattle.frame.specs.Heard.{Featured, Rnn, Spoken}
-use Rattle.frame.specs.declared.Reply.{Reply}
-use Rattle.frame.specs.declared.Reply.TheVariants.{Silent, Heard, Refused}
+use Rattle.frame.specs.Reply.{Reply}
+use Rattle.frame.specs.Reply.{Silent, Heard, Refused}
 
 -- P holds of the model, if the bytes read as one.
 abbrev pub Reads : List ℕ → (Model → Type 0) → Type 0

@@ -9,35 +9,32 @@ ghost use Rattle.frame.specs.Share.{kept_x, kept_ex, lastg};
 ghost use Rattle.frame.specs.Heard.{energies, featured, rnn_of, held_gains, spoken_from, spoken};
 ghost use Rattle.frame.specs.Effect.{Worked};
 ghost use Rattle.frame.specs.Frame.{done3, counted, checked};
-ghost use Rattle.frame.specs.Private.{Reads, featured_as, rnn_as, spoken_as, quiet, reply_of};
+ghost use Rattle.frame.specs.Private.{Reads, featured_as, rnn_as, spoken_as};
+ghost use Rattle.frame.specs.Answer.{reply_told, reply_of_test};
 
-use crate::{Hearing, Reply};
+use crate::{Cause, Hearing, Misread, Told};
 use features::Sound;
 use model::Reading;
+use rules::Refusal;
 
-// The reply of the model's test: refusal 7 or 8, or Done.
-fn judge(read: Reading, hearing: Hearing) -> Reply
-    ensures { result ≡ checked (counted hearing) read }
+// The model's test: refused with 7 if it does not read, and with 8 if it has other GRU sizes.
+fn judge(read: Reading, hearing: Hearing) -> Result<(), Cause>
+    ensures { reply_of_test result ≡ checked (counted hearing) read }
 {
     match read {
-        Reading::Refused(number, layer) => Reply::Misread(number, layer),
+        Reading::Refused(number, layer) => Err(Misread { number, layer }.into()),
         Reading::Good(m) => {
-            if m.vad_gru.neurons != hearing.vad {
-                return Reply::Refused(8);
-            }
-            if m.noise_gru.neurons != hearing.noise {
-                return Reply::Refused(8);
-            }
-            if m.denoise_gru.neurons != hearing.denoise {
-                return Reply::Refused(8);
-            }
-            Reply::Done
+            let same = m.vad_gru.neurons == hearing.vad
+                && m.noise_gru.neurons == hearing.noise
+                && m.denoise_gru.neurons == hearing.denoise;
+            if same { Ok(()) } else { Err(Refusal::OtherCounts.into()) }
         }
     }
 }
 
-pub fn check(model: &[u8], hearing: Hearing) -> Reply
-    ensures { result ≡ checked (counted hearing) (read_of model.now) }
+// The same of a model file.
+pub fn check(model: &[u8], hearing: Hearing) -> Result<(), Cause>
+    ensures { reply_of_test result ≡ checked (counted hearing) (read_of model.now) }
 {
     judge(model::read(model), hearing)
 }
@@ -221,7 +218,7 @@ fn hear_in(
     ensures { Reads model.now (λ m. spoken_as share.new result out.new
         ≡ spoken share.old index spectrum.now logs.now model.now m) }
 {
-    rules::copy(ex, &share[3169..3191]);
+    rules::copy(ex, &share[3169..3191]).unwrap();
     crate::lagged::transform(p, ep, spectrum);
     process_heard(share, out, index, p, ex, ep, logs, model)
 }
@@ -248,26 +245,6 @@ fn hear(
     )
 }
 
-fn is_quiet(sound: Sound) -> bool
-    ensures { result ≡ quiet sound }
-{
-    match sound {
-        Sound::Silent => true,
-        Sound::Heard(_) => false,
-        Sound::Refused(_) => false,
-    }
-}
-
-fn reply_of(sound: Sound, voice: f32) -> Reply
-    ensures { result ≡ reply_of sound voice }
-{
-    match sound {
-        Sound::Silent => Reply::Silent,
-        Sound::Heard(energy) => Reply::Heard(voice, energy),
-        Sound::Refused(number) => Reply::Refused(number),
-    }
-}
-
 // Call 3 after its refusals: the frame is silent or heard, and the spectrum is written.
 pub(crate) fn listen(
     share: &mut [f32],
@@ -276,18 +253,19 @@ pub(crate) fn listen(
     spectrum: &[f32],
     logs: &[f32],
     model: &[u8],
-) -> Reply
+) -> Told
     requires { (length share.old ≡ 3778) × (length out.old ≡ 961) × (index ≤ 7)
         × (length spectrum.now ≡ 961) × (length logs.now ≡ 22) }
     ensures { Reads model.now (λ m. Worked
         (done3 share.old index spectrum.now logs.now model.now m)
-        result share.new (out.old ∷ []) (out.new ∷ [])) }
+        (reply_told result) share.new (out.old ∷ []) (out.new ∷ [])) }
 {
-    let sound = features::listen(&share[3169..3191]);
-    rules::copy(out, &share[2208..3169]);
-    if is_quiet(sound) {
-        return Reply::Silent;
+    rules::copy(out, &share[2208..3169]).unwrap();
+    match features::listen(&share[3169..3191]) {
+        Sound::Heard(energy) => {
+            let voice = hear(share, out, index, spectrum, logs, model);
+            Told::Heard { voice, energy }
+        }
+        _ => Told::Silent,
     }
-    let voice = hear(share, out, index, spectrum, logs, model);
-    reply_of(sound, voice)
 }

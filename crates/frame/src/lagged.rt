@@ -55,7 +55,7 @@ fn keep(share: &mut [f32], ex: &[f32], lag: Lag)
     ensures { share.new
         ≡ put kept_lag (put kept_ex share.old ex.now) (of_int binary32 (pos lag.0) ∷ []) }
 {
-    rules::copy(&mut share[3169..3191], ex);
+    rules::copy(&mut share[3169..3191], ex).unwrap();
     share[3191] = lag.0 as f32;
 }
 

@@ -5,41 +5,19 @@
 ghost use Rattle.std.specs.Prelude.{◌≡◌, [], ◌∷◌, length};
 ghost use Rattle.frame.specs.Effect.{Worked};
 ghost use Rattle.frame.specs.Frame.{call1, call2, call3, call4};
-ghost use Rattle.frame.specs.Reply.{passed, one_more};
+ghost use Rattle.frame.specs.Reply.{one_more};
+ghost use Rattle.frame.specs.Answer.{reply_of};
 
+mod answer;
 mod heard;
 mod input;
 mod lagged;
 mod output;
 
+pub use answer::{Cause, Misread, Told};
 pub use heard::check;
 use numbers::Memory;
-
-// What a call is told: done, for call 3 silent or heard with voice and energy, for a desk's call 4 the frames and the
-// heard frames so far; refused with a number, or with 7 and the model's number and layer.
-#[derive(Clone, Copy)]
-pub enum Reply {
-    Done,
-    Silent,
-    Heard(f32, f32),
-    Numbered(u32, u32),
-    Refused(u32),
-    Misread(u32, u32),
-}
-
-// Whether a reply is no refusal.
-pub fn passed(reply: Reply) -> bool
-    ensures { result ≡ passed reply }
-{
-    match reply {
-        Reply::Done => true,
-        Reply::Silent => true,
-        Reply::Heard(_, _) => true,
-        Reply::Numbered(_, _) => true,
-        Reply::Refused(_) => false,
-        Reply::Misread(_, _) => false,
-    }
-}
+use rules::Refusal;
 
 // How long ago the pitch was, in samples.
 #[derive(Clone, Copy)]
@@ -72,28 +50,25 @@ pub const PART: usize = 3778;
 pub fn one_more(number: u32) -> u32
     ensures { result ≡ one_more number }
 {
-    if number < 4294967295 {
-        return number + 1;
-    }
-    0
+    number.wrapping_add(1)
 }
 
 // Call 1: 480 samples in, none of them broken, 960 windowed numbers written.
-pub fn call1(share: &mut [f32], samples: &[f32], window: &mut [f32]) -> Reply
+pub fn call1(share: &mut [f32], samples: &[f32], window: &mut [f32]) -> Result<Told, Cause>
     ensures { Worked (call1 share.old samples.now (length window.old))
-        result share.new (window.old ∷ []) (window.new ∷ []) }
+        (reply_of result) share.new (window.old ∷ []) (window.new ∷ []) }
 {
     if share.len() != PART {
-        return Reply::Refused(5);
+        return Err(Refusal::WrongLength.into());
     }
     if samples.len() != 480 {
-        return Reply::Refused(5);
+        return Err(Refusal::WrongLength.into());
     }
     if window.len() != 960 {
-        return Reply::Refused(5);
+        return Err(Refusal::WrongLength.into());
     }
     if !samples::all_good(samples) {
-        return Reply::Refused(9);
+        return Err(Refusal::BadSample.into());
     }
     let memory = Memory {
         m0: share[3192],
@@ -102,7 +77,7 @@ pub fn call1(share: &mut [f32], samples: &[f32], window: &mut [f32]) -> Reply
     let next = input::take_in(&mut share[0..1728], memory, samples, window);
     share[3192] = next.m0;
     share[3193] = next.m1;
-    Reply::Done
+    Ok(Told::Done)
 }
 
 // Call 2: the first spectrum and the lag in, 960 windowed numbers and 22 sums written.
@@ -112,33 +87,33 @@ pub fn call2(
     lag: Lag,
     window: &mut [f32],
     sums: &mut [f32],
-) -> Reply
+) -> Result<Told, Cause>
     ensures { Worked
         (call2 share.old spectrum.now lag.0 (length window.old)
         (length sums.old))
-        result share.new (window.old ∷ sums.old ∷ [])
+        (reply_of result) share.new (window.old ∷ sums.old ∷ [])
         (window.new ∷ sums.new ∷ []) }
 {
     if share.len() != PART {
-        return Reply::Refused(5);
+        return Err(Refusal::WrongLength.into());
     }
     if spectrum.len() != 961 {
-        return Reply::Refused(5);
+        return Err(Refusal::WrongLength.into());
     }
     if window.len() != 960 {
-        return Reply::Refused(5);
+        return Err(Refusal::WrongLength.into());
     }
     if sums.len() != 22 {
-        return Reply::Refused(5);
+        return Err(Refusal::WrongLength.into());
     }
     if lag.0 > 768 {
-        return Reply::Refused(6);
+        return Err(Refusal::LagTooLarge.into());
     }
     let back = lag.0;
     let from = 768 - back;
     bands::apply_window(window, &share[from..from + 960]);
     lagged::note(share, spectrum, Lag(back), sums);
-    Reply::Done
+    Ok(Told::Done)
 }
 
 // Call 3: the second spectrum, 22 logarithms and the model in, 961 numbers written; silent, or heard with voice and
@@ -150,48 +125,45 @@ pub fn call3(
     logs: &[f32],
     model: &[u8],
     out: &mut [f32],
-) -> Reply
+) -> Result<Told, Cause>
     ensures { Worked
         (call3 share.old hearing
         spectrum.now logs.now model.now (length out.old))
-        result share.new (out.old ∷ []) (out.new ∷ []) }
+        (reply_of result) share.new (out.old ∷ []) (out.new ∷ []) }
 {
     if share.len() != PART {
-        return Reply::Refused(5);
+        return Err(Refusal::WrongLength.into());
     }
     if spectrum.len() != 961 {
-        return Reply::Refused(5);
+        return Err(Refusal::WrongLength.into());
     }
     if logs.len() != 22 {
-        return Reply::Refused(5);
+        return Err(Refusal::WrongLength.into());
     }
     if out.len() != 961 {
-        return Reply::Refused(5);
+        return Err(Refusal::WrongLength.into());
     }
     if hearing.index > 7 {
-        return Reply::Refused(5);
+        return Err(Refusal::WrongLength.into());
     }
-    let reply = heard::check(model, hearing);
-    if !passed(reply) {
-        return reply;
-    }
-    heard::listen(share, out, hearing.index, spectrum, logs, model)
+    heard::check(model, hearing)?;
+    Ok(heard::listen(share, out, hearing.index, spectrum, logs, model))
 }
 
 // Call 4: 960 inverse samples in, 480 numbers written.
-pub fn call4(share: &mut [f32], inverse: &[f32], out: &mut [f32]) -> Reply
+pub fn call4(share: &mut [f32], inverse: &[f32], out: &mut [f32]) -> Result<Told, Cause>
     ensures { Worked (call4 share.old inverse.now (length out.old))
-        result share.new (out.old ∷ []) (out.new ∷ []) }
+        (reply_of result) share.new (out.old ∷ []) (out.new ∷ []) }
 {
     if share.len() != PART {
-        return Reply::Refused(5);
+        return Err(Refusal::WrongLength.into());
     }
     if inverse.len() != 960 {
-        return Reply::Refused(5);
+        return Err(Refusal::WrongLength.into());
     }
     if out.len() != 480 {
-        return Reply::Refused(5);
+        return Err(Refusal::WrongLength.into());
     }
     output::synthesise(&mut share[1728..2208], inverse, out);
-    Reply::Done
+    Ok(Told::Done)
 }

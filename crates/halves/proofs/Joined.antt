@@ -9,7 +9,7 @@ use Rattle.frame.specs.Written.{first_in}
 use Rattle.rules.proofs.Refusals.{Right, right}
 use Rattle.transforms.specs.Transform.{forward_of, inverse_of}
 use Rattle.frame.specs.declared.Hearing.{Hearing}
-use Rattle.frame.specs.declared.Reply.{Reply}
+use Rattle.frame.specs.Reply.{Reply}
 use Rattle.frame.specs.declared.Way.{Way}
 use Rattle.frame.specs.declared.Way.TheVariants.{Own}
 use Rattle.frame.specs.Effect.{Effect}

@@ -18,7 +18,7 @@ use Rattle.bands.proofs.Results.{length_corr}
 use Rattle.lag.specs.Lag.{own_lag}
 use Rattle.finder.specs.Kept.{whole_lag}
 use Rattle.finder.proofs.Lags.{lag_small, lag_back}
-use Rattle.frame.specs.declared.Reply.{Reply}
+use Rattle.frame.specs.Reply.{Reply}
 use Rattle.frame.specs.Effect.{Effect}
 use Rattle.frame.specs.Reply.{◌refusedIf◌}
 use Rattle.frame.specs.Share.{PART, input_mem, kept_x, kept_ex, kept_lag}

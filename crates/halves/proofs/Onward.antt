@@ -4,8 +4,8 @@ use Rattle.rules.proofs.Common.{ℕ, true, false, true≢false, false≢true, Li
 use Rattle.rules.proofs.Common.{length, get_or, drop, Float}
 use borrow.Author.Tests.{eq-eqb, le-ltb}
 use Rattle.frame.specs.declared.Hearing.{Hearing}
-use Rattle.frame.specs.declared.Reply.{Reply}
-use Rattle.frame.specs.declared.Reply.TheVariants.{Refused, Misread}
+use Rattle.frame.specs.Reply.{Reply}
+use Rattle.frame.specs.Reply.{Refused, Misread}
 use Rattle.frame.specs.declared.Way.{Way}
 use Rattle.frame.specs.Written.{Written, first_in, onto}
 use Rattle.frame.specs.Effect.{Effect, Worked, refusal}

@@ -10,7 +10,7 @@ use Rattle.model.specs.Model.{read_of}
 use Rattle.lag.specs.Lag.{own_lag}
 use Rattle.transforms.specs.Transform.{forward_of, inverse_of}
 use Rattle.frame.specs.declared.Hearing.{Hearing}
-use Rattle.frame.specs.declared.Reply.{Reply}
+use Rattle.frame.specs.Reply.{Reply}
 use Rattle.frame.specs.declared.Way.{Way}
 use Rattle.frame.specs.declared.Way.TheVariants.{Own}
 use Rattle.frame.specs.Effect.{Effect, refusal, unless}

@@ -34,8 +34,8 @@ use Rattle.frame.specs.Share.{noise_state}
 use Rattle.frame.specs.Share.{denoise_state}
 use Rattle.frame.specs.Heard.{scaled, energies, spoken}
 use Rattle.frame.specs.Frame.{done1, put_kept, done4}
-use Rattle.frame.specs.declared.Reply.{Reply}
-use Rattle.frame.specs.declared.Reply.TheVariants.{Done, Silent, Heard, Refused}
+use Rattle.frame.specs.Reply.{Reply}
+use Rattle.frame.specs.Reply.{Done, Silent, Heard, Refused}
 use Rattle.frame.specs.declared.Way.{Way}
 use Rattle.frame.proofs.Keeps.{Keeps, end, call1_keeps, call2_keeps, call3_keeps, call4_keeps}
 use Rattle.frame.proofs.Beside.{Beside, AllApart, done1_beside, done2_beside, done3_beside, done4_beside}

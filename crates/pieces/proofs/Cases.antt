@@ -6,8 +6,8 @@ use Rattle.samples.specs.Samples.{good}
 use Rattle.model.specs.Model.{read_of}
 use Rattle.model.specs.declared.Reading.TheVariants.{Refused as Unread}
 use Rattle.frame.specs.declared.Hearing.{Hearing}
-use Rattle.frame.specs.declared.Reply.{Reply}
-use Rattle.frame.specs.declared.Reply.TheVariants.{Refused, Misread}
+use Rattle.frame.specs.Reply.{Reply}
+use Rattle.frame.specs.Reply.{Refused, Misread}
 use Rattle.frame.specs.declared.Way.{Way}
 use Rattle.frame.specs.Effect.{Effect, refusal}
 use Rattle.frame.specs.Reply.{passed, ◌refusedIf◌}

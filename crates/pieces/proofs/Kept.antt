@@ -6,8 +6,8 @@ use Rattle.rules.proofs.Common.{take, drop, Float}
 use Rattle.rules.specs.Place.{get, put}
 use Rattle.frame.specs.Written.{Written, nothing}
 use Rattle.frame.specs.declared.Hearing.{Hearing}
-use Rattle.frame.specs.declared.Reply.{Reply}
-use Rattle.frame.specs.declared.Reply.TheVariants.{Done, Refused, Misread}
+use Rattle.frame.specs.Reply.{Reply}
+use Rattle.frame.specs.Reply.{Done, Refused, Misread}
 use Rattle.frame.specs.declared.Way.{Way}
 use Rattle.frame.specs.Share.{SHARE}
 use Rattle.frame.specs.Effect.{Effect, refusal}

@@ -3,7 +3,7 @@ ghost use Rattle.std.specs.Prelude.{true, not, ◌≡◌, [], ◌∷◌, ◌≤�
 ghost use Rattle.frame.specs.Written.{nothing};
 ghost use Rattle.samples.specs.Samples.{good};
 ghost use Rattle.model.specs.Model.{read_of};
-ghost use Rattle.frame.specs.declared.Reply.TheVariants.{Done};
+ghost use Rattle.frame.specs.Reply.{Done};
 ghost use Rattle.frame.specs.Effect.{Worked};
 ghost use Rattle.frame.specs.Reply.{◌refusedIf◌, first_refusal};
 ghost use Rattle.frame.specs.Frame.{counted, checked};

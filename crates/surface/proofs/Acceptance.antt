@@ -19,8 +19,8 @@ use Rattle.model.specs.declared.Reading.{Reading}
 use Rattle.model.specs.declared.Reading.TheVariants.{Good, Refused as Unread}
 use Rattle.features.specs.Silence.{energy, is_silent}
 use Rattle.frame.specs.declared.Hearing.{Hearing}
-use Rattle.frame.specs.declared.Reply.{Reply}
-use Rattle.frame.specs.declared.Reply.TheVariants.{Done, Refused, Misread}
+use Rattle.frame.specs.Reply.{Reply}
+use Rattle.frame.specs.Reply.{Done, Refused, Misread}
 use Rattle.frame.specs.declared.Way.{Way}
 use Rattle.frame.specs.Effect.{Effect, refusal, unless}
 use Rattle.frame.specs.Reply.{passed, ◌refusedIf◌, first_refusal}

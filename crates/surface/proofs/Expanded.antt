@@ -13,8 +13,8 @@ use Rattle.rules.proofs.Refusals.{along}
 use Rattle.frame.specs.Written.{first_in}
 use Rattle.logs.specs.Log10.{logs_of}
 use Rattle.frame.specs.Effect.{Effect, refusal}
-use Rattle.frame.specs.declared.Reply.{Reply}
-use Rattle.frame.specs.declared.Reply.TheVariants.{Refused}
+use Rattle.frame.specs.Reply.{Reply}
+use Rattle.frame.specs.Reply.{Refused}
 use Rattle.frame.specs.Reply.{passed}
 use Rattle.pieces.specs.Pieces.{completes}
 use Rattle.desk.specs.declared.Answer.{Answer}

@@ -25,8 +25,8 @@ use Rattle.frame.specs.Frame.{counted, checked}
 use Rattle.frame.specs.Effect.{Effect, refusal}
 use Rattle.frame.specs.Reply.{passed}
 use Rattle.frame.specs.Share.{SHARE}
-use Rattle.frame.specs.declared.Reply.{Reply}
-use Rattle.frame.specs.declared.Reply.TheVariants.{Done, Refused}
+use Rattle.frame.specs.Reply.{Reply}
+use Rattle.frame.specs.Reply.{Done, Refused}
 use Rattle.frame.specs.declared.Hearing.{Hearing}
 use Rattle.frame.specs.declared.Way.{Way}
 use Rattle.halves.specs.Halves as halves

@@ -17,8 +17,8 @@ use Rattle.model.specs.Model.{read_of}
 use Rattle.model.specs.declared.Model.{Model}
 use Rattle.model.specs.declared.Reading.{Reading}
 use Rattle.model.specs.declared.Reading.TheVariants.{Good, Refused as Unread}
-use Rattle.frame.specs.declared.Reply.{Reply}
-use Rattle.frame.specs.declared.Reply.TheVariants.{Done, Silent, Heard, Numbered, Refused, Misread}
+use Rattle.frame.specs.Reply.{Reply}
+use Rattle.frame.specs.Reply.{Done, Silent, Heard, Numbered, Refused, Misread}
 use Rattle.frame.specs.Frame.{counted, checked}
 use Rattle.frame.specs.Reply.{passed}
 use Rattle.pieces.specs.Pieces.{waiting_in, completes}

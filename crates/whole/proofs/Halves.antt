@@ -12,8 +12,8 @@ use Rattle.rules.proofs.Tests.{both}
 use Rattle.logs.specs.Log10.{logs_of}
 use Rattle.desk.specs.declared.Answer.{Answer}
 use Rattle.frame.specs.Effect.{Effect, refusal}
-use Rattle.frame.specs.declared.Reply.{Reply}
-use Rattle.frame.specs.declared.Reply.TheVariants.{Done}
+use Rattle.frame.specs.Reply.{Reply}
+use Rattle.frame.specs.Reply.{Done}
 use Rattle.frame.specs.declared.Way.{Way}
 use Rattle.frame.specs.Share.{SHARE}
 use Rattle.frame.specs.Reply.{passed}

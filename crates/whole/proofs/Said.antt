@@ -19,8 +19,8 @@ use Rattle.frame.proofs.Buffers.{over_none, over_next, lent_over}
 use Rattle.samples.specs.Samples.{good}
 use Rattle.logs.specs.Log10.{logs_of}
 use Rattle.frame.specs.Effect.{Worked}
-use Rattle.frame.specs.declared.Reply.{Reply}
-use Rattle.frame.specs.declared.Reply.TheVariants.{Done}
+use Rattle.frame.specs.Reply.{Reply}
+use Rattle.frame.specs.Reply.{Done}
 use Rattle.frame.specs.Share.{SHARE}
 use Rattle.halves.specs.Halves.{first_half, second_half}
 use Rattle.pieces.specs.Pieces.{frame_part, waiting_place, waiting_in, padded_to, waits, completes}

@@ -4,7 +4,7 @@ use Rattle.std.specs.Prelude.{◌++◌, ◌≡◌}
 use Rattle.rules.proofs.Common.{ℕ, true, List, [], sym, ap, ◌∙◌, length, Float}
 use native.Mathlib.Omega.{arith}
 use Rattle.samples.specs.Samples.{good}
-use Rattle.frame.specs.declared.Reply.{Reply}
+use Rattle.frame.specs.Reply.{Reply}
 use Rattle.frame.specs.Reply.{passed}
 use Rattle.pieces.specs.Pieces.{waiting_in, padded_to}
 use Rattle.pieces.specs.Private.{piece_reply}

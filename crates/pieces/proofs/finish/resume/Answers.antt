@@ -4,7 +4,7 @@ use Rattle.std.specs.Prelude.{◌≡◌}
 use Rattle.rules.proofs.Common.{ℕ, true, List, sym, ◌∙◌, Float}
 use native.Mathlib.Omega.{arith}
 use Rattle.frame.specs.declared.Hearing.{Hearing}
-use Rattle.frame.specs.declared.Reply.{Reply}
+use Rattle.frame.specs.Reply.{Reply}
 use Rattle.frame.specs.Reply.{passed}
 use Rattle.pieces.specs.Private.{resume_reply}
 use Rattle.pieces.proofs.Accepted.{Resume, resume_accepted, within_samples, frame_fits}

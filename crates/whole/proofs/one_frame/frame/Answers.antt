@@ -5,7 +5,7 @@ use Rattle.rules.proofs.Common.{ℕ, Bool, true, List, Float, length, sym, ◌�
 use Rattle.rules.specs.Place.{get, put}
 use Rattle.frame.specs.Share.{SHARE}
 use Rattle.frame.specs.Reply.{passed}
-use Rattle.frame.specs.declared.Reply.{Reply}
+use Rattle.frame.specs.Reply.{Reply}
 use Rattle.desk.specs.declared.Record.{Record}
 use Rattle.desk.specs.Gate.{BENCHES}
 use Rattle.desk.proofs.Turned.{through}
