@@ -5,7 +5,7 @@ ghost use Rattle.frame.specs.declared.answer.Cause.TheVariants.{Plain, Model};
 use rules::Refusal;
 
 // What a call that is done tells.
-#[derive(Clone, Copy, Debug)]
+#[derive(Clone, Copy, Debug, PartialEq)]
 pub enum Told {
     // No more than that it is done.
     Done,

@@ -18,16 +18,21 @@ use model::Reading;
 use rules::Refusal;
 
 // The model's test: refused with 7 if it does not read, and with 8 if it has other GRU sizes.
+#[tactic(auto, using(rules::proofs::Tests::tests), unfolding(crate::specs::Frame::checked))]
 fn judge(read: Reading, hearing: Hearing) -> Result<(), Cause>
     ensures { reply_of_test result ≡ checked (counted hearing) read }
 {
     match read {
-        Reading::Refused(number, layer) => Err(Misread { number, layer }.into()),
+        Reading::Refused(number, layer) => Err(Cause::Model(Misread { number, layer })),
         Reading::Good(m) => {
             let same = m.vad_gru.neurons == hearing.vad
                 && m.noise_gru.neurons == hearing.noise
                 && m.denoise_gru.neurons == hearing.denoise;
-            if same { Ok(()) } else { Err(Refusal::OtherCounts.into()) }
+            if same {
+                Ok(())
+            } else {
+                Err(Cause::Plain(Refusal::OtherCounts))
+            }
         }
     }
 }

@@ -54,21 +54,16 @@ pub fn one_more(number: u32) -> u32
 }
 
 // Call 1: 480 samples in, none of them broken, 960 windowed numbers written.
+#[tactic(auto, using(rules::proofs::Tests::tests), unfolding(crate::specs::Frame::call1))]
 pub fn call1(share: &mut [f32], samples: &[f32], window: &mut [f32]) -> Result<Told, Cause>
     ensures { Worked (call1 share.old samples.now (length window.old))
         (reply_of result) share.new (window.old ∷ []) (window.new ∷ []) }
 {
-    if share.len() != PART {
-        return Err(Refusal::WrongLength.into());
-    }
-    if samples.len() != 480 {
-        return Err(Refusal::WrongLength.into());
-    }
-    if window.len() != 960 {
-        return Err(Refusal::WrongLength.into());
+    if share.len() != PART || samples.len() != 480 || window.len() != 960 {
+        return Err(Cause::Plain(Refusal::WrongLength));
     }
     if !samples::all_good(samples) {
-        return Err(Refusal::BadSample.into());
+        return Err(Cause::Plain(Refusal::BadSample));
     }
     let memory = Memory {
         m0: share[3192],
@@ -81,6 +76,7 @@ pub fn call1(share: &mut [f32], samples: &[f32], window: &mut [f32]) -> Result<T
 }
 
 // Call 2: the first spectrum and the lag in, 960 windowed numbers and 22 sums written.
+#[tactic(auto, using(rules::proofs::Tests::tests), unfolding(crate::specs::Frame::call2))]
 pub fn call2(
     share: &mut [f32],
     spectrum: &[f32],
@@ -94,20 +90,11 @@ pub fn call2(
         (reply_of result) share.new (window.old ∷ sums.old ∷ [])
         (window.new ∷ sums.new ∷ []) }
 {
-    if share.len() != PART {
-        return Err(Refusal::WrongLength.into());
-    }
-    if spectrum.len() != 961 {
-        return Err(Refusal::WrongLength.into());
-    }
-    if window.len() != 960 {
-        return Err(Refusal::WrongLength.into());
-    }
-    if sums.len() != 22 {
-        return Err(Refusal::WrongLength.into());
+    if share.len() != PART || spectrum.len() != 961 || window.len() != 960 || sums.len() != 22 {
+        return Err(Cause::Plain(Refusal::WrongLength));
     }
     if lag.0 > 768 {
-        return Err(Refusal::LagTooLarge.into());
+        return Err(Cause::Plain(Refusal::LagTooLarge));
     }
     let back = lag.0;
     let from = 768 - back;
@@ -118,6 +105,7 @@ pub fn call2(
 
 // Call 3: the second spectrum, 22 logarithms and the model in, 961 numbers written; silent, or heard with voice and
 // energy. Of the record it is told the hearing, of which it reads the cepstral index and the GRU counts.
+#[tactic(auto, using(rules::proofs::Tests::tests), unfolding(crate::specs::Frame::call3))]
 pub fn call3(
     share: &mut [f32],
     hearing: Hearing,
@@ -131,38 +119,26 @@ pub fn call3(
         spectrum.now logs.now model.now (length out.old))
         (reply_of result) share.new (out.old ∷ []) (out.new ∷ []) }
 {
-    if share.len() != PART {
-        return Err(Refusal::WrongLength.into());
-    }
-    if spectrum.len() != 961 {
-        return Err(Refusal::WrongLength.into());
-    }
-    if logs.len() != 22 {
-        return Err(Refusal::WrongLength.into());
-    }
-    if out.len() != 961 {
-        return Err(Refusal::WrongLength.into());
-    }
-    if hearing.index > 7 {
-        return Err(Refusal::WrongLength.into());
+    if share.len() != PART
+        || spectrum.len() != 961
+        || logs.len() != 22
+        || out.len() != 961
+        || hearing.index > 7
+    {
+        return Err(Cause::Plain(Refusal::WrongLength));
     }
     heard::check(model, hearing)?;
     Ok(heard::listen(share, out, hearing.index, spectrum, logs, model))
 }
 
 // Call 4: 960 inverse samples in, 480 numbers written.
+#[tactic(auto, using(rules::proofs::Tests::tests), unfolding(crate::specs::Frame::call4))]
 pub fn call4(share: &mut [f32], inverse: &[f32], out: &mut [f32]) -> Result<Told, Cause>
     ensures { Worked (call4 share.old inverse.now (length out.old))
         (reply_of result) share.new (out.old ∷ []) (out.new ∷ []) }
 {
-    if share.len() != PART {
-        return Err(Refusal::WrongLength.into());
-    }
-    if inverse.len() != 960 {
-        return Err(Refusal::WrongLength.into());
-    }
-    if out.len() != 480 {
-        return Err(Refusal::WrongLength.into());
+    if share.len() != PART || inverse.len() != 960 || out.len() != 480 {
+        return Err(Cause::Plain(Refusal::WrongLength));
     }
     output::synthesise(&mut share[1728..2208], inverse, out);
     Ok(Told::Done)

@@ -3,32 +3,10 @@ use Rattle.std.specs.Prelude.{◌∷◌}
 use Rattle.rules.proofs.Common.{List, [], refl, ap, ap₂, ◌∙◌, length, length-take, length-drop, Float}
 use native.Mathlib.Omega.{arith}
 use Rattle.rules.proofs.Refusals.{left as fitted}
-use Rattle.rules.proofs.Tests.{tests}
 use Rattle.bands.specs.Windowed.{windowed}
-use Rattle.frame.specs.Frame.{call2}
 use Rattle.frame.proofs.Done.{call2_done}
 use Rattle.frame.proofs.Sizes.{looked_at}
 use Rattle.frame.proofs.call2.Goals as goal
-
-pub returns-then-share-ne-PART : goal.returns-then-share-ne-PART
-unfolding call2
-returns-then-share-ne-PART c = search tests
-
-pub returns-then-spectrum-ne961 : goal.returns-then-spectrum-ne961
-unfolding call2
-returns-then-spectrum-ne961 c = search tests
-
-pub returns-then-window-ne960 : goal.returns-then-window-ne960
-unfolding call2
-returns-then-window-ne960 c = search tests
-
-pub returns-then-sums-ne22 : goal.returns-then-sums-ne22
-unfolding call2
-returns-then-sums-ne22 c = search tests
-
-pub returns-then-lag-gt768 : goal.returns-then-lag-gt768
-unfolding call2
-returns-then-lag-gt768 c = search tests
 
 pub returns : goal.returns
 returns c =

@@ -17,23 +17,20 @@ hear-voice-requires c =
       pre.4,
     )
 
-pub returns-then-is_quiet : goal.returns-then-is_quiet
+pub returns-in_default : goal.returns-in_default
 unfolding get
-returns-then-is_quiet c = λ m good.
+returns-in_default c = λ m good.
     let a = c.args in
     let share = a.share.now in
     let x = fitted c.copy.ensures (c.requires.1 ∙ sym (x_size share c.requires.0)) in
-    let sound = fitting c.listen-sound.ensures (ex_size share c.requires.0) in
-    is_silent_lem share a.index a.spectrum.now a.logs.now a.model.now m a.out.now sound
-    (sym c.is_quiet.ensures ∙ c.if-is_quiet.true) x
+    let sound = fitting c.listen.ensures (ex_size share c.requires.0) in
+    is_silent_lem share a.index a.spectrum.now a.logs.now a.model.now m a.out.now sound c.in_default.not-Heard x
 
-pub returns : goal.returns
+pub returns-in-Heard : goal.returns-in-Heard
 unfolding get
-returns c = λ m good.
+returns-in-Heard c = λ m good.
     let a = c.args in
     let share = a.share.now in
-    let sound = fitting c.listen-sound.ensures (ex_size share c.requires.0) in
-    let loud = sym c.is_quiet.ensures ∙ c.if-is_quiet.false in
-    rw c.reply_of.ensures
-    (is_heard_lem share a.index a.spectrum.now a.logs.now a.model.now m a.out.now sound loud
-    (c.hear-voice.ensures m good))
+    let sound = fitting c.listen.ensures (ex_size share c.requires.0) in
+    is_heard_lem share a.index a.spectrum.now a.logs.now a.model.now m a.out.now (sym c.in-Heard.is ∙ sound)
+    (c.hear-voice.ensures m good)

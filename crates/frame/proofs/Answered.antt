@@ -1,0 +1,17 @@
+-- What an answer is that a call passes on. Assumes nothing.
+use Rattle.std.specs.Prelude.{◌≡◌, Result, Ok, Err, IsErrAnd}
+use Rattle.rules.proofs.Common.{false, refl, ap}
+use Rattle.frame.specs.Reply.{passed}
+use Rattle.frame.specs.Answer.{reply_refused, reply_of}
+use Rattle.frame.specs.declared.answer.Told.{Told}
+use Rattle.frame.specs.declared.answer.Cause.{Cause}
+use Rattle.frame.specs.declared.answer.Cause.TheVariants.{Plain, Model}
+
+-- the `?` behind a call that is refused
+pub passed_on : (r : Result Told Cause) (e : Cause) → IsErrAnd r (λ x. x ≡ e) → reply_of r ≡ reply_refused e
+passed_on (Ok told) e h = absurd h
+passed_on (Err why) e h = ap reply_refused h
+
+pub refused_lem : (why : Cause) → passed (reply_refused why) ≡ false
+refused_lem (Plain refusal) = refl
+refused_lem (Model misread) = refl
