@@ -10,6 +10,7 @@ ghost use Rattle.export.specs.OfNetwork.{KnownActivation, computed_number, compu
 
 use model::Activation;
 use network::Computed;
+use rules::told;
 
 fn activation_of(number: u32) -> Activation
     ensures { result ≡ activation_of number }
@@ -42,7 +43,7 @@ pub extern "C" fn tuppence_dense(
     if 2 < activation {
         return 5;
     }
-    network::dense(output, weights, bias, activation_of(activation), input)
+    told(network::dense(output, weights, bias, activation_of(activation), input))
 }
 
 // A GRU layer. `state` has n numbers and is replaced by the frame's output. `weights` has 3*i*n, `recurrent` 3*n*n,
@@ -70,14 +71,14 @@ pub extern "C" fn tuppence_gru(
     if 2 < activation {
         return 5;
     }
-    network::gru(
+    told(network::gru(
         state,
         weights,
         recurrent,
         bias,
         activation_of(activation),
         input,
-    )
+    ))
 }
 
 // A reply as a number: 0, 5, or 7 with the number and the layer of a model that does not read.

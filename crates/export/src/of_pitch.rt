@@ -11,6 +11,8 @@ ghost use Rattle.pitch.specs.Autocorr.{celt_autocorr, AutocorrFits};
 ghost use Rattle.pitch.specs.Downsample.{downsampled, DownsampleFits};
 ghost use Rattle.export.specs.OfPitch.{SumFits, PitchesFit};
 
+use rules::told;
+
 // The sum of n products. `sum` has one place, for it. `xs` and `ys` have n numbers or more.
 #[unsafe(no_mangle)]
 pub extern "C" fn tuppence_inner_prod(sum: &mut [f32], xs: &[f32], ys: &[f32], n: usize) -> u32
@@ -39,7 +41,7 @@ pub extern "C" fn tuppence_lpc(lpc: &mut [f32], ac: &[f32]) -> u32
         (0 leaving lpc_of (length lpc.old) ac.now)
         (5 leaving lpc.old) }
 {
-    pitch::lpc(lpc, ac)
+    told(pitch::lpc(lpc, ac))
 }
 
 // `xcorr` gets a correlation of `xs` and `ys` in each of its places. If it has any, `ys` is at least as long as the
@@ -52,7 +54,7 @@ pub extern "C" fn tuppence_pitch_xcorr(xcorr: &mut [f32], xs: &[f32], ys: &[f32]
         (0 leaving pitch_xcorr xs.now ys.now (length xcorr.old))
         (5 leaving xcorr.old) }
 {
-    pitch::pitch_xcorr(xs, ys, xcorr)
+    told(pitch::pitch_xcorr(xs, ys, xcorr))
 }
 
 // The two best lags. `pitches` has two places, for them. `ys` has at least len numbers more than `xcorr`.
@@ -91,7 +93,7 @@ pub extern "C" fn tuppence_fir5(xs: &mut [f32], num: &[f32]) -> u32
         (0 leaving fir5 xs.old num.now)
         (5 leaving xs.old) }
 {
-    pitch::fir5_in_place(xs, num)
+    told(pitch::fir5_in_place(xs, num))
 }
 
 // Autocorrelation. `ac` has five places, `x` five numbers or more.
@@ -102,7 +104,7 @@ pub extern "C" fn tuppence_autocorr(ac: &mut [f32], x: &[f32]) -> u32
         (0 leaving celt_autocorr x.now)
         (5 leaving ac.old) }
 {
-    pitch::celt_autocorr(x, ac)
+    told(pitch::celt_autocorr(x, ac))
 }
 
 // Halves the sampling rate. `x` has 1,728 numbers, `x_lp` gets 864.
@@ -113,5 +115,5 @@ pub extern "C" fn tuppence_downsample(x_lp: &mut [f32], x: &[f32]) -> u32
         (0 leaving downsampled x.now)
         (5 leaving x_lp.old) }
 {
-    pitch::pitch_downsample(x, x_lp)
+    told(pitch::pitch_downsample(x, x_lp))
 }

@@ -1,12 +1,15 @@
 // The forward and the inverse 960-point real transforms of `transforms`, but fast: through a complex transform of 480
 // numbers in stages (stages), with the one table of 960 cosines. Without rounding they would be the plain sums of
-// `transforms`. Both refuse other lengths than those of their arrays with 5, and then change nothing.
+// `transforms`. Both refuse other lengths than those of their arrays as WrongLength, and then change nothing.
 #![tactic(auto)]
 
-ghost use Rattle.std.specs.Prelude.{◌≡◌, length};
+ghost use Rattle.std.specs.Prelude.{◌≡◌, length, Ok, Err};
 ghost use Rattle.rules.specs.Leaf.{Leaf, ◌leaving◌};
+ghost use Rattle.rules.specs.declared.refusal.Refusal.TheVariants.{WrongLength};
 ghost use Rattle.transforms.specs.Transform.{ForwardFits, InverseFits};
 ghost use Rattle.fft.specs.Single.{fast_forward, fast_inverse};
+
+use rules::Refusal;
 
 mod bins;
 mod complex;
@@ -29,20 +32,17 @@ fn forward_core(out: &mut [f32], x: &[f32])
 }
 
 // The spectrum of 960 samples.
-pub fn forward(out: &mut [f32], x: &[f32]) -> u32
+pub fn forward(out: &mut [f32], x: &[f32]) -> Result<(), Refusal>
     ensures { Leaf (ForwardFits (length out.old) (length x.now))
         (result leaving out.new)
-        (0 leaving fast_forward x.now)
-        (5 leaving out.old) }
+        (Ok tt leaving fast_forward x.now)
+        (Err WrongLength leaving out.old) }
 {
-    if out.len() != 961 {
-        return 5;
-    }
-    if x.len() != 960 {
-        return 5;
+    if out.len() != 961 || x.len() != 960 {
+        return Err(Refusal::WrongLength);
     }
     forward_core(out, x);
-    0
+    Ok(())
 }
 
 // `inverse` for lengths that fit.
@@ -59,18 +59,15 @@ fn inverse_core(out: &mut [f32], x: &[f32])
 }
 
 // The samples of a spectrum, times 960: bins 1 to 479 count twice, bin 0 and the real part of bin 480 once.
-pub fn inverse(out: &mut [f32], x: &[f32]) -> u32
+pub fn inverse(out: &mut [f32], x: &[f32]) -> Result<(), Refusal>
     ensures { Leaf (InverseFits (length out.old) (length x.now))
         (result leaving out.new)
-        (0 leaving fast_inverse x.now)
-        (5 leaving out.old) }
+        (Ok tt leaving fast_inverse x.now)
+        (Err WrongLength leaving out.old) }
 {
-    if out.len() != 960 {
-        return 5;
-    }
-    if x.len() != 961 {
-        return 5;
+    if out.len() != 960 || x.len() != 961 {
+        return Err(Refusal::WrongLength);
     }
     inverse_core(out, x);
-    0
+    Ok(())
 }

@@ -112,9 +112,9 @@ fn sums(s: Sixteen, weights: &[u8], stride: usize, place: usize, input: &[f32]) 
         (length input.now) s }
 {
     let mut r = s;
-    for i in 0..input.len() {
+    for (i, x) in input.iter().enumerate() {
         let row = i * stride + place;
-        r = step(r, weights, row, input[i]);
+        r = step(r, weights, row, *x);
     }
     r
 }

@@ -1,10 +1,13 @@
 // The high-pass filter of util.rs. It works in `f64` and rounds what it stores.
-ghost use Rattle.std.specs.Prelude.{◌≡◌, T, [], ◌∷◌, length};
+ghost use Rattle.std.specs.Prelude.{◌≡◌, Ok, Err, T, [], ◌∷◌, length};
 ghost use Rattle.std.specs.Float.{binary32};
 ghost use Rattle.std.specs.Float.Ieee.{fits};
 ghost use Rattle.rules.specs.Leaf.{Leaf, ◌leaving◌};
-ghost use Rattle.numbers.specs.Filter.{memory_after, outputs, answer};
+ghost use Rattle.rules.specs.declared.refusal.Refusal.TheVariants.{WrongLength};
+ghost use Rattle.numbers.specs.Filter.{memory_after, outputs};
 ghost use Rattle.numbers.specs.Private.{memory_in};
+
+use rules::Refusal;
 
 // The coefficients of y[n] = x[n] + b0 * x[n-1] + b1 * x[n-2] - a0 * y[n-1] - a1 * y[n-2].
 #[derive(Clone, Copy)]
@@ -20,13 +23,6 @@ pub struct Biquad {
 pub struct Memory {
     pub m0: f32,
     pub m1: f32,
-}
-
-// What a call hands back: 0 and the memory to go on with, or 5 and the memory as it came.
-#[derive(Clone, Copy)]
-pub struct Filtered {
-    pub number: u32,
-    pub memory: Memory,
 }
 
 // A memory within a call, each number an `f32` still: so a turn waits for no conversion of what the turn before it
@@ -52,32 +48,34 @@ impl Biquad {
         b1: 1.0,
     };
 
-    // Filters input into output; 5 where their lengths differ.
-    pub fn filter(self, output: &mut [f32], memory: Memory, input: &[f32]) -> Filtered
+    // Filters input into output, and gives the memory to go on with. Refused if their lengths differ.
+    pub fn filter(
+        self,
+        output: &mut [f32],
+        memory: Memory,
+        input: &[f32],
+    ) -> Result<Memory, Refusal>
         ensures { Leaf (length output.old ≡ length input.now)
             (result leaving output.new)
-            (answer 0 (memory_after self memory input.now) leaving outputs self memory input.now)
-            (answer 5 memory leaving output.old) }
+            (Ok (memory_after self memory input.now) leaving outputs self memory input.now)
+            (Err WrongLength leaving output.old) }
     {
         if output.len() != input.len() {
-            return Filtered { number: 5, memory };
+            return Err(Refusal::WrongLength);
         }
         let mut kept = Kept {
             m0: wide(memory.m0),
             m1: wide(memory.m1),
         };
-        for i in 0..input.len() {
-            let turned = self.turn(kept, input[i]);
+        for (i, x) in input.iter().enumerate() {
+            let turned = self.turn(kept, *x);
             kept = turned.kept;
             output[i] = turned.y;
         }
-        Filtered {
-            number: 0,
-            memory: Memory {
-                m0: crate::narrow(kept.m0),
-                m1: crate::narrow(kept.m1),
-            },
-        }
+        Ok(Memory {
+            m0: crate::narrow(kept.m0),
+            m1: crate::narrow(kept.m1),
+        })
     }
 
     // The filter over one sample. What is fed back is `y64`, before it is rounded.

@@ -23,7 +23,7 @@ pub mod filter;
 pub mod lists;
 pub mod table;
 
-pub use filter::{Biquad, Filtered, Memory};
+pub use filter::{Biquad, Memory};
 
 // Whether a and b are zeros and a is -0, which alone goes to minus infinity below 1.
 fn gives_way(a: f32, b: f32) -> bool

@@ -1,13 +1,15 @@
 // The search of pitch.rs: the inner product of two slices, and the best two of some lags. A public function refuses
-// with 5 exactly if its lengths do not fit; its core does the work.
+// with `WrongLength` exactly if its lengths do not fit; its core does the work.
 #![tactic(auto)]
 
-ghost use Rattle.std.specs.Prelude.{◌≡◌, ◌+◌, ◌<◌, ◌≤◌, length};
+ghost use Rattle.std.specs.Prelude.{◌≡◌, ◌+◌, ◌<◌, ◌≤◌, Ok, Err, length};
 ghost use Rattle.rules.specs.Leaf.{Leaf};
-ghost use Rattle.pitch_search.specs.Best.{start_norm, considered, slid, best, best_of, pitches_number, first_of};
-ghost use Rattle.pitch_search.specs.Best.{second_of, BestFits};
-ghost use Rattle.pitch_search.specs.Inner.{inner_prod, product_number, sum_of, InnerFits};
+ghost use Rattle.rules.specs.declared.refusal.Refusal.TheVariants.{WrongLength};
+ghost use Rattle.pitch_search.specs.Best.{start_norm, considered, slid, best, best_of, BestFits};
+ghost use Rattle.pitch_search.specs.Inner.{inner_prod, InnerFits};
 ghost use Rattle.pitch_search.specs.Private.{search_in};
+
+use rules::Refusal;
 
 // `inner_prod` for lengths that fit.
 fn inner_prod_core(xs: &[f32], ys: &[f32], n: usize) -> f32
@@ -18,6 +20,7 @@ fn inner_prod_core(xs: &[f32], ys: &[f32], n: usize) -> f32
     let mut sum1 = 0.0f32;
     let mut sum2 = 0.0f32;
     let mut sum3 = 0.0f32;
+    // Stays: both loops read two slices at one place, the first one four places a turn, so an iterator is no plainer.
     for k in 0..n / 4 {
         let i = 4 * k;
         sum0 = sum0 + xs[i] * ys[i];
@@ -32,49 +35,15 @@ fn inner_prod_core(xs: &[f32], ys: &[f32], n: usize) -> f32
     sum
 }
 
-// The answer of `inner_prod`.
-#[derive(Clone, Copy)]
-pub enum Product {
-    // The inner product.
-    Sum(f32),
-    // The number of a refusal.
-    Refused(u32),
-}
-
-impl Product {
-    // 0, or the number of the refusal.
-    pub fn number(self) -> u32
-        ensures { result ≡ product_number self }
-    {
-        match self {
-            Product::Sum(_) => 0,
-            Product::Refused(number) => number,
-        }
-    }
-
-    // The sum, or 0 if it was refused.
-    pub fn sum(self) -> f32
-        ensures { result ≡ sum_of self }
-    {
-        match self {
-            Product::Sum(sum) => sum,
-            Product::Refused(_) => 0.0,
-        }
-    }
-}
-
 // The inner product of xs[..n] and ys[..n].
-pub fn inner_prod(xs: &[f32], ys: &[f32], n: usize) -> Product
+pub fn inner_prod(xs: &[f32], ys: &[f32], n: usize) -> Result<f32, Refusal>
     ensures { Leaf (InnerFits (length xs.now) (length ys.now) n)
-        result (Product.Sum (inner_prod xs.now ys.now n)) (Product.Refused 5) }
+        result (Ok (inner_prod xs.now ys.now n)) (Err WrongLength) }
 {
-    if xs.len() < n {
-        return Product::Refused(5);
+    if xs.len() < n || ys.len() < n {
+        return Err(Refusal::WrongLength);
     }
-    if ys.len() < n {
-        return Product::Refused(5);
-    }
-    Product::Sum(inner_prod_core(xs, ys, n))
+    Ok(inner_prod_core(xs, ys, n))
 }
 
 // The energy at lag 0: 1.0 and the squares of ys[..len].
@@ -83,8 +52,8 @@ fn norm(ys: &[f32], len: usize) -> f32
     ensures { result ≡ start_norm ys.now len }
 {
     let mut sum = 1.0f32;
-    for i in 0..len {
-        sum = sum + ys[i] * ys[i];
+    for y in &ys[..len] {
+        sum = sum + *y * *y;
     }
     sum
 }
@@ -123,17 +92,14 @@ fn consider_lag(b: Best, corr: f32, i: usize) -> Best
                     second_best_den: b.best_den,
                     best_pitch: i,
                     second_best_pitch: b.best_pitch,
-                    y_sq_norm: b.y_sq_norm,
+                    ..b
                 };
             }
             return Best {
-                best_num: b.best_num,
                 second_best_num: num,
-                best_den: b.best_den,
                 second_best_den: b.y_sq_norm,
-                best_pitch: b.best_pitch,
                 second_best_pitch: i,
-                y_sq_norm: b.y_sq_norm,
+                ..b
             };
         }
     }
@@ -145,12 +111,11 @@ fn slide_norm(b: Best, ys: &[f32], i: usize, len: usize) -> Best
     requires { i + len < length ys.now }
     ensures { search_in result ≡ slid ys.now len i (search_in b) }
 {
-    let mut next = b;
-    next.y_sq_norm = numbers::max(
+    let y_sq_norm = numbers::max(
         b.y_sq_norm + (ys[i + len] * ys[i + len] - ys[i] * ys[i]),
         1.0,
     );
-    next
+    Best { y_sq_norm, ..b }
 }
 
 // `find_best_pitch` for lengths that fit.
@@ -167,64 +132,32 @@ fn find_best_pitch_core(xcorr: &[f32], ys: &[f32], len: usize) -> Best
         second_best_pitch: 1,
         y_sq_norm: norm(ys, len),
     };
-    for i in 0..xcorr.len() {
-        b = slide_norm(consider_lag(b, xcorr[i], i), ys, i, len);
+    for (i, corr) in xcorr.iter().enumerate() {
+        b = slide_norm(consider_lag(b, *corr, i), ys, i, len);
     }
     b
 }
 
-// The answer of `find_best_pitch`.
+// The two lags that `find_best_pitch` finds.
 #[derive(Clone, Copy)]
-pub enum Pitches {
-    // The best lag and the second best.
-    Best(usize, usize),
-    // The number of a refusal.
-    Refused(u32),
-}
-
-impl Pitches {
-    // 0, or the number of the refusal.
-    pub fn number(self) -> u32
-        ensures { result ≡ pitches_number self }
-    {
-        match self {
-            Pitches::Best(_, _) => 0,
-            Pitches::Refused(number) => number,
-        }
-    }
-
-    // The best lag, or 0 if it was refused.
-    pub fn first(self) -> usize
-        ensures { result ≡ first_of self }
-    {
-        match self {
-            Pitches::Best(first, _) => first,
-            Pitches::Refused(_) => 0,
-        }
-    }
-
-    // The second best lag, or 0 if it was refused.
-    pub fn second(self) -> usize
-        ensures { result ≡ second_of self }
-    {
-        match self {
-            Pitches::Best(_, second) => second,
-            Pitches::Refused(_) => 0,
-        }
-    }
+pub struct Pitches {
+    // The best lag.
+    pub first: usize,
+    // The second best.
+    pub second: usize,
 }
 
 // The two lags with the largest normalised correlations.
-pub fn find_best_pitch(xcorr: &[f32], ys: &[f32], len: usize) -> Pitches
+pub fn find_best_pitch(xcorr: &[f32], ys: &[f32], len: usize) -> Result<Pitches, Refusal>
     ensures { Leaf (BestFits (length xcorr.now) (length ys.now) len)
-        result (best_of xcorr.now ys.now len) (Pitches.Refused 5) }
+        result (best_of xcorr.now ys.now len) (Err WrongLength) }
 {
-    if ys.len() < len {
-        return Pitches::Refused(5);
-    }
-    if ys.len() - len < xcorr.len() {
-        return Pitches::Refused(5);
+    if ys.len() < len || ys.len() - len < xcorr.len() {
+        return Err(Refusal::WrongLength);
     }
     let b = find_best_pitch_core(xcorr, ys, len);
-    Pitches::Best(b.best_pitch, b.second_best_pitch)
+    Ok(Pitches {
+        first: b.best_pitch,
+        second: b.second_best_pitch,
+    })
 }

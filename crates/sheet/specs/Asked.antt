@@ -4,8 +4,7 @@ use Rattle.rules.specs.Common.{ℕ, not, List, [], eqb, leb, length, get_or}
 use Rattle.rules.specs.Leaf.{◌leaving◌}
 use Rattle.rules.specs.Refusals.{◌when◌, refusing}
 use Rattle.sheet.specs.End.{End, sheet, refused, end_of, read_sheet}
-use Rattle.sheet.specs.declared.Reading.{Reading}
-use Rattle.sheet.specs.declared.Reading.TheVariants.{Good, Refused}
+use Rattle.sheet.specs.End.{Reading, Good, Refused}
 
 -- Where the records start, how many there are, and the side.
 abbrev pub told : Reading → List ℕ → ℕ × List ℕ

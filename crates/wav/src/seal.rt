@@ -5,7 +5,7 @@ ghost use Rattle.rules.specs.Leaf.{◌leaving◌};
 ghost use Rattle.wav.specs.Seal.{word_of, twenty_of, said, seal_of, seal_written, seal_read, seal_summary};
 
 use crate::bytes;
-use sides::{Meant, Side};
+use sides::Side;
 
 // Which seal it is.
 #[derive(Drop)]
@@ -78,7 +78,7 @@ fn said_by(word: Word, seal: Seal) -> [u8; 20]
     let side = seal.side;
     twenty(
         word_of(word),
-        sides::letters(side) as u64,
+        side.letters() as u64,
         seal.long,
         seal.short as u64,
     )
@@ -111,8 +111,8 @@ pub fn write(out: &mut [u8], word: Word, side: u32, long: u64, short: u32) -> u3
     if out.len() != 24 {
         return 5;
     }
-    match sides::of_number(side) {
-        Meant::Means(known) => {
+    match Side::of_number(side) {
+        Some(known) => {
             lay(
                 out,
                 word,
@@ -124,7 +124,7 @@ pub fn write(out: &mut [u8], word: Word, side: u32, long: u64, short: u32) -> u3
             );
             0
         }
-        Meant::Nothing => 53,
+        None => 53,
     }
 }
 
@@ -144,9 +144,9 @@ pub fn read(word: Word, file: &[u8]) -> Reading
     let name = bytes::four_at(file, 4) as u32;
     let long = bytes::four_at(file, 8) + 4294967296 * bytes::four_at(file, 12);
     let short = bytes::four_at(file, 16) as u32;
-    match sides::of_letters(name) {
-        Meant::Means(side) => Reading::Whole(Seal { side, long, short }),
-        Meant::Nothing => Reading::Refused(53),
+    match Side::of_letters(name) {
+        Some(side) => Reading::Whole(Seal { side, long, short }),
+        None => Reading::Refused(53),
     }
 }
 
@@ -160,7 +160,7 @@ pub fn summary(numbers: &mut [u64], word: Word, file: &[u8]) -> u32
     match read(word, file) {
         Reading::Whole(seal) => {
             let side = seal.side;
-            numbers[0] = sides::number(side) as u64;
+            numbers[0] = side.number() as u64;
             numbers[1] = seal.long;
             numbers[2] = seal.short as u64;
             0

@@ -4,4 +4,4 @@ use Rattle.pitch_search.proofs.slide_norm.Goals as goal
 
 pub returns : goal.returns
 unfolding slid
-returns c = rw c.max.ensures
+returns c = rw c.max-y_sq_norm.ensures

@@ -2,24 +2,11 @@
 use Rattle.std.specs.Prelude.{◌+◌}
 use Rattle.rules.proofs.Common.{refl}
 use native.Mathlib.Omega.{arith}
-use Rattle.rules.proofs.Loops.{turns}
 use Rattle.pitch.proofs.Sums.{sums_begin, sums_more, sums_ended, together}
 use Rattle.pitch.proofs.lanes.corr16.Goals as goal
 
 pub loop-j-init : goal.loop-j-init
 loop-j-init c = (omega arith, refl, sums_begin _ _ _, sums_begin _ _ _, sums_begin _ _ _, sums_begin _ _ _)
-
-pub add_four-a-requires : goal.add_four-a-requires
-add_four-a-requires c = search turns
-
-pub add_four-b-requires : goal.add_four-b-requires
-add_four-b-requires c = search turns
-
-pub add_four-c-requires : goal.add_four-c-requires
-add_four-c-requires c = search turns
-
-pub add_four-d-requires : goal.add_four-d-requires
-add_four-d-requires c = search turns
 
 pub loop-j-preserved : goal.loop-j-preserved
 loop-j-preserved c =

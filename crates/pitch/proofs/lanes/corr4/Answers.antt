@@ -1,15 +1,11 @@
 -- `pitch::lanes::corr4` meets its contract. Assumes nothing.
 use Rattle.rules.proofs.Common.{refl}
 use native.Mathlib.Omega.{arith}
-use Rattle.rules.proofs.Loops.{turns}
 use Rattle.pitch.proofs.Sums.{sums_begin, sums_more, sums_ended}
 use Rattle.pitch.proofs.lanes.corr4.Goals as goal
 
 pub loop-j-init : goal.loop-j-init
 loop-j-init c = (omega arith, refl, sums_begin _ _ _)
-
-pub add_four-s-requires : goal.add_four-s-requires
-add_four-s-requires c = search turns
 
 pub loop-j-preserved : goal.loop-j-preserved
 loop-j-preserved c = (
