@@ -1,6 +1,7 @@
--- What an answer is that a call passes on. Assumes nothing.
+-- What an answer is that a call passes on, and what an unwrapped leaf gives. Assumes nothing.
 use Rattle.std.specs.Prelude.{◌≡◌, Result, Ok, Err, IsErrAnd}
 use Rattle.rules.proofs.Common.{false, refl, ap}
+use Rattle.rules.specs.Leaf.{◌leaving◌}
 use Rattle.frame.specs.Reply.{passed}
 use Rattle.frame.specs.Answer.{reply_refused, reply_of}
 use Rattle.frame.specs.declared.answer.Told.{Told}
@@ -15,3 +16,10 @@ passed_on (Err why) e h = ap reply_refused h
 pub refused_lem : (why : Cause) → passed (reply_refused why) ≡ false
 refused_lem (Plain refusal) = refl
 refused_lem (Model misread) = refl
+
+-- what a leaf gives to a caller that unwraps it
+pub unwrapped : {A B E : Type 0} {r : Result A E} {x y : A} {b c : B} → r ≡ Ok x → (r leaving b) ≡ (Ok y leaving c)
+    → x ≡ y
+unwrapped {A} {B} {E} {r} {x} {y} e f =
+    let same : r ≡ Ok y = ap (λ (p : Result A E × B). p.0) f in
+    cc

@@ -94,7 +94,7 @@ fn apply_in(out: &mut [f32], gf: &mut [f32], gains: &[f32])
     requires { (length out.old ≡ 961) × (length gf.old ≡ 481) × (length gains.now ≡ 22) }
     ensures { out.new ≡ applied out.old (band_gain gains.now) }
 {
-    bands::interp_band_gain(gf, gains);
+    bands::interp_band_gain(gf, gains).unwrap();
     features::apply_gains(out, gf);
 }
 

@@ -34,7 +34,9 @@ pub(crate) fn take_in(
         ≡ windowed (get (recent 0) (shifted mem.old (outputs high_pass memory samples.now))) }
 {
     shift(mem);
-    let done = Biquad::BIQUAD_HP.filter(&mut mem[1248..1728], memory, samples);
-    bands::apply_window(window, &mem[768..1728]);
-    done.memory
+    let next = Biquad::BIQUAD_HP
+        .filter(&mut mem[1248..1728], memory, samples)
+        .unwrap();
+    bands::apply_window(window, &mem[768..1728]).unwrap();
+    next
 }

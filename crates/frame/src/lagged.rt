@@ -27,7 +27,7 @@ pub(crate) fn transform(p: &mut [f32], ep: &mut [f32], spectrum: &[f32])
     ensures ep_after { ep.new ≡ energies spectrum.now }
 {
     scale(p, spectrum);
-    bands::compute_band_corr(ep, p, p);
+    bands::compute_band_corr(ep, p, p).unwrap();
 }
 
 // Adds 0.01 to each energy. The logarithms are taken of these sums.

@@ -98,7 +98,7 @@ pub fn call2(
     }
     let back = lag.0;
     let from = 768 - back;
-    bands::apply_window(window, &share[from..from + 960]);
+    bands::apply_window(window, &share[from..from + 960]).unwrap();
     lagged::note(share, spectrum, Lag(back), sums);
     Ok(Told::Done)
 }

@@ -16,7 +16,7 @@ fn look_back(spectrum: &mut [f32], share: &[f32], way: Way)
     let lag = finder::kept::whole_lag(share[3191]);
     let from = 768 - lag;
     let mut window = [0.0f32; 960];
-    bands::apply_window(&mut window, &share[from..from + 960]);
+    bands::apply_window(&mut window, &share[from..from + 960]).unwrap();
     crate::ways::forward(spectrum, &window, way);
 }
 

@@ -37,12 +37,8 @@ pub(crate) fn forward(out: &mut [f32], samples: &[f32], way: Way)
     ensures { out.new ≡ forward_by way samples.now }
 {
     match way {
-        Way::Own => {
-            transforms::forward(out, samples);
-        }
-        Way::Nnnoiseless => {
-            fft::forward(out, samples);
-        }
+        Way::Own => transforms::forward(out, samples).unwrap(),
+        Way::Nnnoiseless => fft::forward(out, samples).unwrap(),
     }
 }
 
@@ -52,11 +48,7 @@ pub(crate) fn inverse(out: &mut [f32], spectrum: &[f32], way: Way)
     ensures { out.new ≡ inverse_by way spectrum.now }
 {
     match way {
-        Way::Own => {
-            transforms::inverse(out, spectrum);
-        }
-        Way::Nnnoiseless => {
-            fft::inverse(out, spectrum);
-        }
+        Way::Own => transforms::inverse(out, spectrum).unwrap(),
+        Way::Nnnoiseless => fft::inverse(out, spectrum).unwrap(),
     }
 }
