@@ -1,12 +1,13 @@
 -- The lag that a bench finds by itself (request 04), over the definitions of `pitch` and `pitch_search`. The rule is
 -- our own: it is simpler than `PitchFinder::process` of nnnoiseless, which is in the crate `finder`.
-use Rattle.std.specs.Prelude.{◌-◌, ◌*◌}
+use Rattle.std.specs.Prelude.{◌-◌, ◌*◌, Result, Ok, Err}
 use Rattle.rules.specs.Common.{ℕ, List, Float}
 use Rattle.rules.specs.F32.{part}
+use Rattle.rules.specs.Refusal.{told}
+use Rattle.rules.specs.declared.refusal.Refusal.{Refusal}
 use Rattle.pitch.specs.Xcorr.{pitch_xcorr}
 use Rattle.pitch_search.specs.Best.{best_of, first_of}
 use Rattle.pitch.specs.Downsample.{downsampled}
-use Rattle.lag.specs.declared.OwnLag.{OwnLag}
 
 -- How well the newest 480 of the 864 half-rate numbers agree with older ones: one correlation for each of 294 offsets.
 unfoldable pub correlations : List Float → List Float
@@ -20,12 +21,11 @@ first_pitch low = first_of (best_of (correlations low) low 480)
 unfoldable pub own_lag : List Float → ℕ
 own_lag mem = 768 - 2 * first_pitch (downsampled mem)
 
--- The number that a call returns: 0, or the number of the refusal.
-abbrev pub own_number : OwnLag → ℕ
-own_number (OwnLag.Lag l) = 0
-own_number (OwnLag.Refused n) = n
+-- The number that a host is told: 0, or the number of the refusal.
+abbrev pub own_number : Result ℕ Refusal → ℕ
+own_number answer = told answer
 
 -- The lag in an answer, or 0 if it was refused.
-abbrev pub lag_in : OwnLag → ℕ
-lag_in (OwnLag.Lag l) = l
-lag_in (OwnLag.Refused n) = 0
+abbrev pub lag_in : Result ℕ Refusal → ℕ
+lag_in (Ok lag) = lag
+lag_in (Err refusal) = 0
