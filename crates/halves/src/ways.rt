@@ -26,12 +26,13 @@ pub(crate) fn lag(share: &mut [f32], way: Way) -> Lag
     ensures share_after { share.new ≡ remembered way share.old }
 {
     match way {
-        Way::Own => Lag(lag::lag_of(&share[0..1728]).lag()),
+        Way::Own => Lag(lag::lag_of(&share[0..1728]).unwrap()),
         Way::Nnnoiseless => find(share),
     }
 }
 
 // The spectrum of 960 samples.
+#[tactic(auto, using(rules::proofs::Refusals::left), unfolding(crate::specs::Ways::forward_by))]
 pub(crate) fn forward(out: &mut [f32], samples: &[f32], way: Way)
     requires { ForwardFits (length out.old) (length samples.now) }
     ensures { out.new ≡ forward_by way samples.now }
@@ -43,6 +44,7 @@ pub(crate) fn forward(out: &mut [f32], samples: &[f32], way: Way)
 }
 
 // The samples of a spectrum.
+#[tactic(auto, using(rules::proofs::Refusals::left), unfolding(crate::specs::Ways::inverse_by))]
 pub(crate) fn inverse(out: &mut [f32], spectrum: &[f32], way: Way)
     requires { InverseFits (length out.old) (length spectrum.now) }
     ensures { out.new ≡ inverse_by way spectrum.now }

@@ -8,10 +8,6 @@ use Rattle.halves.specs.Own.{call2_own}
 use Rattle.halves.proofs.Sister.{found, worked}
 use Rattle.halves.proofs.own.call2_own.Goals as goal
 
-pub returns-then-share-ne-PART : goal.returns-then-share-ne-PART
-unfolding call2_own call2
-returns-then-share-ne-PART c = search tests
-
 pub returns : goal.returns
 unfolding get
 returns c =
