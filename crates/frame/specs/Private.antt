@@ -3,7 +3,7 @@ use Rattle.std.specs.Prelude.{◌≡◌}
 use Rattle.rules.specs.Common.{ℕ, Bool, true, false, List, Float}
 use Rattle.model.specs.Model.{read_of}
 use Rattle.model.specs.declared.Model.{Model}
-use Rattle.model.specs.declared.Reading.TheVariants.{Good}
+use Rattle.model.specs.Reading.{Good}
 use Rattle.features.specs.declared.Sound.{Sound}
 use Rattle.features.specs.declared.Sound.TheVariants as sound
 use Rattle.frame.specs.Heard.{Featured, Rnn, Spoken}

@@ -14,8 +14,8 @@ use Rattle.rules.specs.Refusals.{Row, ◌when◌, wrong}
 use Rattle.rules.proofs.Refusals.{clear, by_rows, Right, right, none_wrong, one_wrong, by_each}
 use Rattle.model.specs.Model.{read_of}
 use Rattle.model.specs.declared.Model.{Model}
-use Rattle.model.specs.declared.Reading.{Reading}
-use Rattle.model.specs.declared.Reading.TheVariants as read
+use Rattle.model.specs.Reading.{Reading}
+use Rattle.model.specs.Reading as read
 use Rattle.network.specs.Compute.{Layered, layered_of, six_layers, layers_in_place, Outcome, outcome_of, by_reading}
 use Rattle.network.specs.Compute.{computed}
 use Rattle.network.specs.Private.{Lengths}

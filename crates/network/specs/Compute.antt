@@ -9,8 +9,8 @@ use Rattle.model.specs.declared.Kind.{Kind}
 use Rattle.model.specs.declared.Kind.TheVariants.{Dense, Gru}
 use Rattle.model.specs.declared.Header.{Header}
 use Rattle.model.specs.declared.Model.{Model}
-use Rattle.model.specs.declared.Reading.{Reading}
-use Rattle.model.specs.declared.Reading.TheVariants as read
+use Rattle.model.specs.Reading.{Reading}
+use Rattle.model.specs.Reading as read
 use Rattle.network.specs.Layers.{dense_of, gru_of}
 use Rattle.network.specs.declared.Computed.{Computed}
 use Rattle.network.specs.declared.Computed.TheVariants.{Done, Refused, Misread}

@@ -7,7 +7,7 @@ use Rattle.numbers.specs.Activations.{tansig_approx, sigmoid_approx}
 use Rattle.numbers.specs.Larger.{rectified}
 use Rattle.numbers.specs.Root.{root}
 use Rattle.model.specs.Model.{read_of}
-use Rattle.model.specs.declared.Reading.TheVariants.{Refused}
+use Rattle.model.specs.Reading.{Refused}
 use Rattle.features.specs.Silence.{sound_of}
 use Rattle.features.specs.declared.Sound.TheVariants.{Silent, Heard}
 
