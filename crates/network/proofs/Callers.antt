@@ -20,8 +20,7 @@ use Rattle.network.specs.Compute.{Layered, layered_of, six_layers, layers_in_pla
 use Rattle.network.specs.Compute.{computed}
 use Rattle.network.specs.Private.{Lengths}
 use Rattle.model.proofs.Bounds.{refused_in}
-use Rattle.network.specs.declared.Computed.{Computed}
-use Rattle.network.specs.declared.Computed.TheVariants.{Done, Refused, Misread}
+use Rattle.network.specs.Computed.{Computed, Done, Refused, Misread}
 use Rattle.network.proofs.Fitting.{few, voice_fits, gains_fit}
 use Rattle.network.proofs.Lengths.{length_dense_at, length_gru_at}
 
