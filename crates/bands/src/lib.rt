@@ -2,7 +2,7 @@
 // A spectrum is 961 numbers: bin 0, which is real, then the real and the imaginary part of bins 1 to 480.
 // Each leaf refuses lengths other than its arrays', and then changes nothing.
 // Stays: the loops of add_bins, compute_band_corr_core, fill_band, interp_band_gain_core and add_rows count bands, bins
-// or rows, and calculate with the count or hand it on. An iterator would give the same count, and no item is used alone.
+// or rows, and calculate with the count or hand it on. An iterator would give the same count, and is no plainer.
 #![tactic(auto)]
 
 ghost use Rattle.std.specs.Prelude.{◌≡◌, ◌+◌, ◌-◌, ◌≤◌, ◌<◌, Ok, Err, length};

@@ -8,8 +8,7 @@ use Rattle.rules.proofs.Common.{ℕ, false, List, [], refl, ap, ◌∙◌, lengt
 use Rattle.rules.specs.Place.{get, put}
 use Rattle.frame.specs.Written.{from, nothing, first_in}
 use Rattle.model.specs.Model.{read_of}
-use Rattle.model.specs.declared.Reading.{Reading}
-use Rattle.model.specs.declared.Reading.TheVariants.{Good, Refused as Unread}
+use Rattle.model.specs.Reading.{Reading, Good, Refused as Unread}
 use Rattle.model.proofs.Bounds.{refused_in}
 use Rattle.frame.specs.Reply.{Reply}
 use Rattle.frame.specs.Reply.{Done, Misread}

@@ -16,8 +16,7 @@ use Rattle.rules.specs.Place.{Place, get, put}
 use Rattle.frame.specs.Written.{onto}
 use Rattle.rules.proofs.Places.{put_get, put_in, get_get, length_get}
 use Rattle.model.specs.Model.{read_of}
-use Rattle.model.specs.declared.Reading.{Reading}
-use Rattle.model.specs.declared.Reading.TheVariants.{Good, Refused as Unread}
+use Rattle.model.specs.Reading.{Reading, Good, Refused as Unread}
 use Rattle.frame.specs.Share.{SHARE, PART}
 use Rattle.frame.specs.Effect.{Effect, Worked}
 use Rattle.frame.specs.Reply.{passed}

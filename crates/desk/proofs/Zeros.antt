@@ -16,8 +16,7 @@ use Rattle.frame.specs.Written.{Written, from, nothing, first_in}
 use Rattle.rules.proofs.Places.{Within, length_get, get_put, get_put_apart}
 use Rattle.rules.proofs.Tests.{both}
 use Rattle.model.specs.Model.{read_of}
-use Rattle.model.specs.declared.Reading.{Reading}
-use Rattle.model.specs.declared.Reading.TheVariants.{Good, Refused as Unread}
+use Rattle.model.specs.Reading.{Reading, Good, Refused as Unread}
 use Rattle.frame.specs.Share.{SHARE, PART}
 use Rattle.frame.specs.Effect.{Effect}
 use Rattle.frame.specs.Reply.{passed}

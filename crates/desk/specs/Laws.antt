@@ -7,7 +7,7 @@ use Rattle.frame.specs.Written.{Written, first_in}
 use Rattle.transforms.specs.Transform.{forward_of}
 use Rattle.model.specs.Model.{read_of}
 use Rattle.model.specs.declared.Model.{Model}
-use Rattle.model.specs.declared.Reading.TheVariants.{Good}
+use Rattle.model.specs.Reading.{Good}
 use Rattle.frame.specs.Share.{SHARE}
 use Rattle.frame.specs.Effect.{Effect}
 use Rattle.frame.specs.Reply.{passed}

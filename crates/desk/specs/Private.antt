@@ -1,8 +1,7 @@
 -- For the contracts of private functions.
 use Rattle.std.specs.Prelude.{◌+◌, ◌-◌, ◌≤◌, ◌≡◌}
 use Rattle.rules.specs.Common.{ℕ, cond}
-use Rattle.model.specs.declared.Reading.{Reading}
-use Rattle.model.specs.declared.Reading.TheVariants.{Good, Refused as Unread}
+use Rattle.model.specs.Reading.{Reading, Good, Refused as Unread}
 use Rattle.frame.specs.Share.{SHARE, PART}
 use Rattle.frame.specs.Reply.{passed, one_more}
 use Rattle.frame.specs.Reply.{Reply}

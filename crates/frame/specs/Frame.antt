@@ -13,8 +13,7 @@ use Rattle.numbers.specs.Filter.{high_pass, memory_of, memory_list, memory_after
 use Rattle.bands.specs.Windowed.{windowed}
 use Rattle.model.specs.Model.{read_of}
 use Rattle.model.specs.declared.Model.{Model}
-use Rattle.model.specs.declared.Reading.{Reading}
-use Rattle.model.specs.declared.Reading.TheVariants.{Good, Refused as Unread}
+use Rattle.model.specs.Reading.{Reading, Good, Refused as Unread}
 use Rattle.features.specs.Silence.{energy, is_silent}
 use Rattle.frame.specs.Effect.{Effect, refusal, unless}
 use Rattle.frame.specs.Reply.{◌refusedIf◌}

@@ -3,7 +3,7 @@ use Rattle.std.specs.Prelude.{◌≡◌}
 use Rattle.rules.specs.Common.{ℕ, List, Float}
 use Rattle.model.specs.Model.{read_of}
 use Rattle.model.specs.declared.Model.{Model}
-use Rattle.model.specs.declared.Reading.TheVariants.{Good}
+use Rattle.model.specs.Reading.{Good}
 use Rattle.frame.specs.Heard.{Featured, Rnn, Spoken}
 
 -- P holds of the model, if the bytes read as one.

@@ -8,7 +8,7 @@ use Rattle.rules.specs.Place.{get}
 use Rattle.frame.specs.Written.{first_in}
 use Rattle.model.specs.Model.{read_of}
 use Rattle.model.specs.declared.Model.{Model}
-use Rattle.model.specs.declared.Reading.TheVariants.{Good, Refused as Unread}
+use Rattle.model.specs.Reading.{Good, Refused as Unread}
 use Rattle.frame.specs.declared.Hearing.{Hearing}
 use Rattle.frame.specs.Reply.{Reply}
 use Rattle.frame.specs.Reply.{Silent, Heard, Refused, Misread}

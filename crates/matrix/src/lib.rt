@@ -33,8 +33,8 @@ pub fn matrix<'a>(weights: &'a [u8], stride: usize, offset: usize) -> SubMatrix<
 }
 
 impl<'a> SubMatrix<'a> {
-    // output[j] += data[i * stride + offset + j] * input[i], for each i in order. Refused, with the output unchanged, if
-    // the lengths do not fit.
+    // output[j] += data[i * stride + offset + j] * input[i], for each i in order. Refused, with the output unchanged,
+    // if the lengths do not fit.
     pub fn mul_add(self, output: &mut [f32], input: &[f32]) -> Result<(), Refusal>
         ensures { MulAdd output.old self.entry.data.now self.entry.stride
             self.entry.offset

@@ -8,8 +8,7 @@ use mathlib.Core.List.{append-nil}
 use native.Mathlib.Omega.{arith}
 use borrow.Author.Tests.{eqb-true, not-false}
 use Rattle.model.specs.declared.Model.{Model}
-use Rattle.model.specs.declared.Reading.{Reading}
-use Rattle.model.specs.declared.Reading.TheVariants.{Good, Refused}
+use Rattle.model.specs.Reading.{Reading, Good, Refused}
 use Rattle.rules.proofs.Refusals.{Clear, clear, by_rows}
 use Rattle.model.specs.Layer.{Layer}
 use Rattle.model.specs.Model.{kinds, read_layers, headers_at, model_of, counts_in, match_faults, read_of}

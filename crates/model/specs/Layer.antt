@@ -9,8 +9,8 @@ use Rattle.model.specs.declared.Activation.TheVariants.{Tanh, Sigmoid, Relu}
 use Rattle.model.specs.declared.Kind.{Kind}
 use Rattle.model.specs.declared.Kind.TheVariants.{Dense, Gru}
 use Rattle.model.specs.declared.Header.{Header}
-use Rattle.model.specs.declared.Step.{Step}
-use Rattle.model.specs.declared.Step.TheVariants as step
+use Rattle.model.specs.Step.{Step}
+use Rattle.model.specs.Step as step
 
 -- The lengths of a layer's arrays: input weights, recurrent weights, biases.
 abbrev pub lengths : Kind → ℕ → ℕ → List ℕ

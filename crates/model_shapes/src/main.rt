@@ -4,7 +4,7 @@
 
 ghost use Rattle.std.specs.Prelude.{◌<◌};
 
-use model::{Cursor, Kind, Step};
+use model::{Cursor, Kind};
 use std::io;
 
 fn header(space: &mut [u8], at: usize, inputs: u8, neurons: u8, activation: u8) {
@@ -31,8 +31,8 @@ fn layer(
     let at = c.at;
     header(space, at, inputs, neurons, activation);
     match c.layer(&space[..], kind) {
-        Step::Layer(_, next) => next,
-        Step::Refused(_) => c,
+        Ok((_, next)) => next,
+        Err(_) => c,
     }
 }
 

@@ -16,7 +16,7 @@ use Rattle.rules.specs.F32.{part}
 use Rattle.rules.specs.Place.{Place, get, put}
 use Rattle.rules.proofs.Places.{Apart, length_get, length_put, get_put, get_put_apart, put_in}
 use Rattle.model.specs.declared.Model.{Model}
-use Rattle.network.specs.declared.Computed.{Computed}
+use Rattle.network.specs.Computed.{Computed}
 use Rattle.network.specs.Laws.{SideBySide}
 use Rattle.network.specs.Compute.{dense_at, gru_at, six_layers, layers_in_place, vad_in, noise_in, denoise_in}
 use Rattle.network.specs.Compute.{layered_on}

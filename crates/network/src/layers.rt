@@ -17,8 +17,8 @@ fn copy_weights(out: &mut [f32], bytes: &[u8])
     requires { length out.old ≡ length bytes.now }
     ensures { out.new ≡ copied bytes.now }
 {
-    for j in 0..out.len() {
-        out[j] = matrix::sums::weight(bytes[j]);
+    for (j, x) in out.iter_mut().enumerate() {
+        *x = matrix::sums::weight(bytes[j]);
     }
 }
 
@@ -26,8 +26,8 @@ fn copy_weights(out: &mut [f32], bytes: &[u8])
 fn scale(xs: &mut [f32])
     ensures { xs.new ≡ map (λ x. weights_scale ⊗ x) xs.old }
 {
-    for j in 0..xs.len() {
-        xs[j] = WEIGHTS_SCALE * xs[j];
+    for x in xs.iter_mut() {
+        *x = WEIGHTS_SCALE * *x;
     }
 }
 
@@ -60,7 +60,7 @@ pub(crate) fn dense(
 {
     let n = output.len();
     copy_weights(output, bias);
-    matrix::mul_add_at(weights, n, 0, output, input);
+    matrix::mul_add_at(weights, n, 0, output, input).unwrap();
     activate(output, table, activation);
 }
 
@@ -79,8 +79,8 @@ fn times(gates: &mut [f32], state: &[f32])
     ensures { gates.new
         ≡ loop (length gates.old) (times_step state.now) gates.old }
 {
-    for j in 0..gates.len() {
-        gates[j] = state[j] * gates[j];
+    for (j, gate) in gates.iter_mut().enumerate() {
+        *gate = state[j] * *gate;
     }
 }
 
@@ -100,9 +100,9 @@ fn mix(state: &mut [f32], z: &[f32], new: &[f32])
     ensures { state.new
         ≡ loop (length state.old) (mix_step z.now new.now) state.old }
 {
-    for j in 0..state.len() {
+    for (j, s) in state.iter_mut().enumerate() {
         let keep = z[j];
-        state[j] = keep * state[j] + (1.0 - keep) * new[j];
+        *s = keep * *s + (1.0 - keep) * new[j];
     }
 }
 
@@ -138,8 +138,8 @@ fn gate_sums(
     let stride = 3 * n;
     let end = offset + n;
     copy_weights(out, &bias[offset..end]);
-    matrix::mul_add_at(weights, stride, offset, out, input);
-    matrix::mul_add_at(recurrent, stride, offset, out, state);
+    matrix::mul_add_at(weights, stride, offset, out, input).unwrap();
+    matrix::mul_add_at(recurrent, stride, offset, out, state).unwrap();
 }
 
 // A GRU layer with lent places for its gates.

@@ -3,7 +3,7 @@
 ghost use Rattle.std.specs.Prelude.{◌≡◌, ◌++◌, ◌+◌, ◌≤◌, length, take};
 ghost use Rattle.numbers.specs.Tansig.{tansig};
 ghost use Rattle.model.specs.declared.Kind.TheVariants.{Dense, Gru};
-ghost use Rattle.model.specs.declared.Reading.TheVariants.{Good};
+ghost use Rattle.model.specs.Reading.{Good};
 ghost use Rattle.model.specs.Model.{read_of};
 ghost use Rattle.rules.specs.Place.{get, put};
 ghost use Rattle.network.specs.Compute.{dense_at, gru_at, layered_on, layers_in_place, vad_in, noise_in, denoise_in};

@@ -79,6 +79,7 @@ impl Biquad {
     }
 
     // The filter over one sample. What is fed back is `y64`, before it is rounded.
+    #[tactic(auto, unfolding(crate::specs::Filter::filtered, crate::specs::Filter::filter_step))]
     fn turn(self, kept: Kept, x: f32) -> Turned
         ensures { (memory_in result.kept ≡ memory_after self (memory_in kept) (x ∷ []))
             × (result.y ∷ [] ≡ outputs self (memory_in kept) (x ∷ [])) }

@@ -2,21 +2,58 @@
 ghost use Rattle.std.specs.Prelude.{◌≡◌, ◌+◌, ◌*◌, ◌<◌, ◌≤◌, length, from_bits};
 ghost use Rattle.std.specs.Float.{binary32};
 ghost use Rattle.pcm.specs.Pcm.{width, two_bytes_at, three_bytes_at, four_bytes_at, signed, clipped, halves, number_at};
+ghost use Rattle.pcm.specs.Private.{numbered, Names};
+
+// A format of samples. In a call it is the number of its bits, and 33 for whole numbers of 32 bits.
+#[derive(Clone, Copy)]
+pub(crate) enum Format {
+    Int16,
+    Int24,
+    Float32,
+    Int32,
+}
+
+// A number that names no format.
+#[derive(Clone, Copy)]
+pub(crate) struct UnknownFormat;
+
+impl TryFrom<u32> for Format {
+    type Error = UnknownFormat;
+
+    ghost try_from_gives = { Names };
+
+    fn try_from(number: u32) -> Result<Self, UnknownFormat> {
+        match number {
+            16 => Ok(Format::Int16),
+            24 => Ok(Format::Int24),
+            32 => Ok(Format::Float32),
+            33 => Ok(Format::Int32),
+            _ => Err(UnknownFormat),
+        }
+    }
+}
+
+impl Format {
+    // The bytes of a sample.
+    pub(crate) fn width(self) -> usize
+        ensures { (result ≡ width (numbered self)) × (0 < result) × (result ≤ 4) }
+    {
+        match self {
+            Format::Int16 => 2,
+            Format::Int24 => 3,
+            Format::Float32 | Format::Int32 => 4,
+        }
+    }
+}
 
 // The bytes of a sample in this format, or 0 if there is no such format.
 pub fn width_of(format: u32) -> usize
     ensures { result ≡ width format }
 {
-    if format == 16 {
-        return 2;
+    match Format::try_from(format) {
+        Ok(known) => known.width(),
+        Err(_) => 0,
     }
-    if format == 24 {
-        return 3;
-    }
-    if format == 33 {
-        return 4;
-    }
-    if format == 32 { 4 } else { 0 }
 }
 
 // A byte as a number of 32 bits.
@@ -98,18 +135,14 @@ fn halves(bytes: &[u8], a: usize) -> f32
 }
 
 // The sample whose bytes begin at place a.
-pub(crate) fn number_at(format: u32, bytes: &[u8], a: usize) -> f32
-    requires { (0 < width format) × (a + width format ≤ length bytes.now) }
-    ensures { result ≡ number_at format bytes.now a }
+pub(crate) fn number_at(format: Format, bytes: &[u8], a: usize) -> f32
+    requires { a + width (numbered format) ≤ length bytes.now }
+    ensures { result ≡ number_at (numbered format) bytes.now a }
 {
-    if format == 16 {
-        return signed(32768, two(bytes, a));
+    match format {
+        Format::Int16 => signed(32768, two(bytes, a)),
+        Format::Int24 => clipped(signed(8388608, three(bytes, a)) / 256.0, -32768.0, 32767.0),
+        Format::Float32 => 32768.0 * clipped(float_of(four(bytes, a)), -1.0, 0.999969482421875),
+        Format::Int32 => clipped(halves(bytes, a), -32768.0, 32767.0),
     }
-    if format == 24 {
-        return clipped(signed(8388608, three(bytes, a)) / 256.0, -32768.0, 32767.0);
-    }
-    if format == 33 {
-        return clipped(halves(bytes, a), -32768.0, 32767.0);
-    }
-    32768.0 * clipped(float_of(four(bytes, a)), -1.0, 0.999969482421875)
 }

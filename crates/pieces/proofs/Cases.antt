@@ -4,7 +4,7 @@ use Rattle.std.specs.Prelude.{◌≡◌}
 use Rattle.rules.proofs.Common.{ℕ, Bool, false, not, List, eqb, length, Float}
 use Rattle.samples.specs.Samples.{good}
 use Rattle.model.specs.Model.{read_of}
-use Rattle.model.specs.declared.Reading.TheVariants.{Refused as Unread}
+use Rattle.model.specs.Reading.{Refused as Unread}
 use Rattle.frame.specs.declared.Hearing.{Hearing}
 use Rattle.frame.specs.Reply.{Reply}
 use Rattle.frame.specs.Reply.{Refused, Misread}

@@ -6,8 +6,7 @@ use Rattle.std.specs.Prelude.{◌≡◌}
 use Rattle.rules.proofs.Common.{ℕ, Bool, true, false, cond, not, true≢false, List, refl}
 use borrow.Author.Tests.{not-false}
 use Rattle.model.specs.Model.{read_of}
-use Rattle.model.specs.declared.Reading.{Reading}
-use Rattle.model.specs.declared.Reading.TheVariants.{Good, Refused as Unread}
+use Rattle.model.specs.Reading.{Reading, Good, Refused as Unread}
 use Rattle.frame.specs.declared.Hearing.{Hearing}
 use Rattle.frame.specs.Reply.{Reply}
 use Rattle.frame.specs.Reply.{Done, Refused, Misread}

@@ -13,8 +13,7 @@ use Rattle.samples.specs.Samples.{good}
 use Rattle.logs.specs.Log10.{logs_of}
 use Rattle.model.specs.Model.{read_of}
 use Rattle.model.specs.declared.Model.{Model}
-use Rattle.model.specs.declared.Reading.{Reading}
-use Rattle.model.specs.declared.Reading.TheVariants.{Good, Refused as Unread}
+use Rattle.model.specs.Reading.{Reading, Good, Refused as Unread}
 use Rattle.model.proofs.Bounds.{refused_in}
 use Rattle.lag.specs.Lag.{own_lag}
 use Rattle.features.specs.Silence.{energy, is_silent}

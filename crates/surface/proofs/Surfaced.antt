@@ -17,8 +17,7 @@ use Rattle.rules.specs.Refusals.{Row, refusing}
 use Rattle.rules.proofs.Places.{length_get, put_get}
 use Rattle.rules.proofs.Refusals.{along, by_rows}
 use Rattle.model.specs.Model.{read_of}
-use Rattle.model.specs.declared.Reading.{Reading}
-use Rattle.model.specs.declared.Reading.TheVariants.{Good, Refused as Unread}
+use Rattle.model.specs.Reading.{Reading, Good, Refused as Unread}
 use Rattle.frame.specs.Effect.{Effect, refusal}
 use Rattle.frame.specs.Reply.{Reply}
 use Rattle.frame.specs.Reply.{Refused}

@@ -18,8 +18,7 @@ use Rattle.rules.proofs.Tests.{both}
 use Rattle.samples.specs.Samples.{good_sample, good}
 use Rattle.model.specs.Model.{read_of}
 use Rattle.model.specs.declared.Model.{Model}
-use Rattle.model.specs.declared.Reading.{Reading}
-use Rattle.model.specs.declared.Reading.TheVariants.{Good, Refused as Unread}
+use Rattle.model.specs.Reading.{Reading, Good, Refused as Unread}
 use Rattle.frame.specs.Written.{Written, from, nothing, first_in}
 use Rattle.frame.specs.Frame.{counted, checked}
 use Rattle.frame.specs.Effect.{Effect, refusal}

@@ -27,7 +27,7 @@ use Rattle.wav.specs.Laws.{OtherWord}
 use Rattle.wav.specs.declared.seal.Word.{Word}
 use Rattle.wav.specs.declared.seal.Word.TheVariants.{Begins, Ends}
 use Rattle.wav.specs.declared.seal.Seal.{Seal}
-use Rattle.wav.specs.declared.seal.Reading.TheVariants.{Whole, Refused}
+use Rattle.wav.specs.Seal.{Whole, Refused}
 use Rattle.wav.proofs.Seals.{at_51', at_52, at_whole, length_said}
 
 -- a number of 32 bits by its four bytes

@@ -17,7 +17,7 @@ use Rattle.sheet.specs.End.{from_four}
 use Rattle.wav.specs.Seal.{word_of, name, seal_faults, said, seal_of, seal_written, seal_read}
 use Rattle.wav.specs.declared.seal.Word.{Word}
 use Rattle.wav.specs.declared.seal.Seal.{Seal}
-use Rattle.wav.specs.declared.seal.Reading.TheVariants.{Whole, Refused}
+use Rattle.wav.specs.Seal.{Whole, Refused}
 
 module _ (w : Word) (s : List ℕ) where
   pub at_51 : length s < 24 → Refused 51 ≡ seal_read w s

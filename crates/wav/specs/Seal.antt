@@ -1,8 +1,10 @@
 -- The two seals of a recording: as data, as 24 bytes, and as they are read. Four letters are read as a
 -- number, least significant byte first.
-use Rattle.std.specs.Prelude.{Option, Some, None, ◌+◌, ◌*◌, ◌/◌, ◌||◌, ◌∷◌, ◌++◌}
+use Rattle.std.specs.Prelude.{Option, Some, None, Result, Ok, Err, ◌+◌, ◌*◌, ◌/◌, ◌||◌, ◌∷◌, ◌++◌}
 use Rattle.rules.specs.Common.{ℕ, not, List, [], eqb, ltb, length, take, drop}
 use Rattle.rules.specs.Leaf.{◌leaving◌}
+use Rattle.rules.specs.Refusal.{number_of as refusal_number}
+use Rattle.rules.specs.declared.refusal.Refusal.{Refusal}
 use Rattle.rules.specs.Refusals.{Row, ◌when◌, refusing}
 use Rattle.checksum.specs.Checksum.{crc32}
 use Rattle.sides.specs.Sides.{number_of, letters_of, of_number, of_letters}
@@ -12,8 +14,6 @@ use Rattle.sheet.specs.End.{from_four}
 use Rattle.wav.specs.declared.seal.Word.{Word}
 use Rattle.wav.specs.declared.seal.Word.TheVariants.{Begins, Ends}
 use Rattle.wav.specs.declared.seal.Seal.{Seal}
-use Rattle.wav.specs.declared.seal.Reading.{Reading}
-use Rattle.wav.specs.declared.seal.Reading.TheVariants.{Whole, Refused}
 
 -- The letters "TUPB" and "TUPP".
 abbrev pub TUPB : ℕ
@@ -58,6 +58,16 @@ long s = from_four (drop 8 s) + 4294967296 * from_four (drop 12 s)
 
 abbrev pub short : List ℕ → ℕ
 short s = from_four (drop 16 s)
+
+-- A whole seal, or the number of a refusal.
+pub data Reading : Type 0 where
+  Whole : Seal → Reading
+  Refused : ℕ → Reading
+
+-- What a reader's answer says.
+abbrev pub seal_as : Result Seal Refusal → Reading
+seal_as (Ok seal) = Whole seal
+seal_as (Err refusal) = Refused (refusal_number refusal)
 
 -- The refusals, in order.
 unfoldable pub seal_faults : Word → List ℕ → List Row

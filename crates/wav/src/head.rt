@@ -1,18 +1,16 @@
 // The head of a WAV file with one channel of 16 bits.
 ghost use Rattle.std.specs.Prelude.{◌≡◌};
 ghost use Rattle.rules.specs.Leaf.{◌leaving◌};
+ghost use Rattle.rules.specs.Refusal.{told};
 ghost use Rattle.wav.specs.Head.{riff_size, head_of, head_written};
 
-use crate::bytes;
+use rules::Refusal;
 
 // RIFF's size: how many bytes follow it, or the most that 32 bits can hold.
 fn riff_size(size: u32, behind: u32) -> u64
     ensures { result ≡ riff_size size behind }
 {
-    bytes::lesser(
-        36 + size as u64 + (size % 2) as u64 + behind as u64,
-        4294967295,
-    )
+    (36 + size as u64 + (size % 2) as u64 + behind as u64).min(4294967295)
 }
 
 pub fn head_of(rate: u32, size: u32, behind: u32) -> [u8; 44]
@@ -71,14 +69,15 @@ pub fn head_of(rate: u32, size: u32, behind: u32) -> [u8; 44]
 }
 
 // The head for so many bytes of audio at a rate, with so many bytes of chunks after them. 4,294,967,295 bytes
-// of audio mean: to the end of the file. A buffer of other than 44 bytes is refused with 5.
-pub fn write(out: &mut [u8], rate: u32, size: u32, behind: u32) -> u32
-    ensures { (result leaving out.new) ≡ head_written rate size behind out.old }
+// of audio mean: to the end of the file. A buffer of other than 44 bytes is refused as of a wrong
+// length.
+pub fn write(out: &mut [u8], rate: u32, size: u32, behind: u32) -> Result<(), Refusal>
+    ensures { (told result leaving out.new) ≡ head_written rate size behind out.old }
 {
     if out.len() != 44 {
-        return 5;
+        return Err(Refusal::WrongLength);
     }
     let head = head_of(rate, size, behind);
-    bytes::copy(out, &head);
-    0
+    out.copy_from_slice(&head);
+    Ok(())
 }

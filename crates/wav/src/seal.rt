@@ -2,9 +2,11 @@
 // and the checksum of these 20 bytes. The word says which seal it is.
 ghost use Rattle.std.specs.Prelude.{◌≡◌, length};
 ghost use Rattle.rules.specs.Leaf.{◌leaving◌};
-ghost use Rattle.wav.specs.Seal.{word_of, twenty_of, said, seal_of, seal_written, seal_read, seal_summary};
+ghost use Rattle.rules.specs.Refusal.{told};
+ghost use Rattle.wav.specs.Seal.{word_of, twenty_of, said, seal_of, seal_written, seal_as, seal_read, seal_summary};
 
 use crate::bytes;
+use rules::Refusal;
 use sides::Side;
 
 // Which seal it is.
@@ -24,13 +26,6 @@ pub struct Seal {
     pub long: u64,
     // The number of 32 bits.
     pub short: u32,
-}
-
-// A whole seal, or the number of a refusal.
-#[derive(Drop)]
-pub enum Reading {
-    Whole(Seal),
-    Refused(u32),
 }
 
 // Four letters as a number, least significant byte first.
@@ -90,8 +85,8 @@ fn lay(out: &mut [u8], word: Word, seal: Seal)
 {
     let front = said_by(word, seal);
     let own = bytes::four_of(checksum::crc32(0, &front) as u64);
-    bytes::copy(&mut out[..20], &front);
-    bytes::copy(&mut out[20..], &own);
+    out[..20].copy_from_slice(&front);
+    out[20..].copy_from_slice(&own);
 }
 
 // A seal as its 24 bytes.
@@ -103,68 +98,53 @@ pub fn of(word: Word, seal: Seal) -> [u8; 24]
     bytes
 }
 
-// For a host: a seal, of a side by its number. Another length than 24 is refused with 5, and a number that means no
-// side with 53.
-pub fn write(out: &mut [u8], word: Word, side: u32, long: u64, short: u32) -> u32
-    ensures { (result leaving out.new) ≡ seal_written word side long short out.old }
+// For a host: a seal, of a side by its number. Refused are another length than 24, and a number that means no side.
+pub fn write(out: &mut [u8], word: Word, side: u32, long: u64, short: u32) -> Result<(), Refusal>
+    ensures { (told result leaving out.new) ≡ seal_written word side long short out.old }
 {
     if out.len() != 24 {
-        return 5;
+        return Err(Refusal::WrongLength);
     }
-    match Side::of_number(side) {
-        Some(known) => {
-            lay(
-                out,
-                word,
-                Seal {
-                    side: known,
-                    long,
-                    short,
-                },
-            );
-            0
-        }
-        None => 53,
-    }
+    let Some(side) = Side::of_number(side) else {
+        return Err(Refusal::SealSide);
+    };
+    lay(out, word, Seal { side, long, short });
+    Ok(())
 }
 
 // The seal with this word, at the front of some bytes.
-pub fn read(word: Word, file: &[u8]) -> Reading
-    ensures { result ≡ seal_read word file.now }
+pub fn read(word: Word, file: &[u8]) -> Result<Seal, Refusal>
+    ensures { seal_as result ≡ seal_read word file.now }
 {
     if file.len() < 24 {
-        return Reading::Refused(51);
+        return Err(Refusal::SealNone);
     }
     if bytes::four_at(file, 0) != word_of(word) {
-        return Reading::Refused(51);
+        return Err(Refusal::SealNone);
     }
     if bytes::four_at(file, 20) != checksum::crc32(0, &file[..20]) as u64 {
-        return Reading::Refused(52);
+        return Err(Refusal::SealChecksum);
     }
     let name = bytes::four_at(file, 4) as u32;
     let long = bytes::four_at(file, 8) + 4294967296 * bytes::four_at(file, 12);
     let short = bytes::four_at(file, 16) as u32;
     match Side::of_letters(name) {
-        Some(side) => Reading::Whole(Seal { side, long, short }),
-        None => Reading::Refused(53),
+        Some(side) => Ok(Seal { side, long, short }),
+        None => Err(Refusal::SealSide),
     }
 }
 
-// For a host: the side's number, the long number and the short one. Another length than three is refused with 5.
-pub fn summary(numbers: &mut [u64], word: Word, file: &[u8]) -> u32
-    ensures { (result leaving numbers.new) ≡ seal_summary word file.now numbers.old }
+// For a host: the side's number, the long number and the short one. Another length than three is refused.
+pub fn summary(numbers: &mut [u64], word: Word, file: &[u8]) -> Result<(), Refusal>
+    ensures { (told result leaving numbers.new) ≡ seal_summary word file.now numbers.old }
 {
     if numbers.len() != 3 {
-        return 5;
+        return Err(Refusal::WrongLength);
     }
-    match read(word, file) {
-        Reading::Whole(seal) => {
-            let side = seal.side;
-            numbers[0] = side.number() as u64;
-            numbers[1] = seal.long;
-            numbers[2] = seal.short as u64;
-            0
-        }
-        Reading::Refused(number) => number,
-    }
+    let seal = read(word, file)?;
+    let side = seal.side;
+    numbers[0] = side.number() as u64;
+    numbers[1] = seal.long;
+    numbers[2] = seal.short as u64;
+    Ok(())
 }

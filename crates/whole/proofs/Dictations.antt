@@ -15,8 +15,7 @@ use Rattle.rules.specs.F32.{zeros}
 use Rattle.rules.specs.Place.{get}
 use Rattle.model.specs.Model.{read_of}
 use Rattle.model.specs.declared.Model.{Model}
-use Rattle.model.specs.declared.Reading.{Reading}
-use Rattle.model.specs.declared.Reading.TheVariants.{Good, Refused as Unread}
+use Rattle.model.specs.Reading.{Reading, Good, Refused as Unread}
 use Rattle.frame.specs.Reply.{Reply}
 use Rattle.frame.specs.Reply.{Done, Silent, Heard, Numbered, Refused, Misread}
 use Rattle.frame.specs.Frame.{counted, checked}

@@ -1,6 +1,6 @@
 -- `desk::opened` meets its contract: each arm by its variant. Assumes nothing.
 use mathlib.Core.Path.{sym, ap}
-use Rattle.model.specs.declared.Reading.{Reading}
+use Rattle.model.specs.Reading.{Reading}
 use Rattle.desk.specs.Private.{opened_of}
 use Rattle.desk.proofs.opened.Goals as goal
 

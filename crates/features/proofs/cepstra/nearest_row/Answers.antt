@@ -1,20 +1,15 @@
 -- `features::cepstra::nearest_row` meets its contract. Assumes nothing.
-use Rattle.rules.proofs.Loops.{turns}
+use native.Mathlib.Omega.{arith}
+use Rattle.rules.proofs.Loops.{begin, more, ended}
 use Rattle.features.specs.Cepstra.{nearest}
 use Rattle.features.proofs.cepstra.nearest_row.Goals as goal
 
-pub loop-j-init : goal.loop-j-init
-unfolding nearest
-loop-j-init c = search turns
+pub loop-index-init : goal.loop-index-init
+loop-index-init c = begin _ _
 
-pub nearer-least-requires : goal.nearer-least-requires
-unfolding nearest
-nearer-least-requires c = search turns
-
-pub loop-j-preserved : goal.loop-j-preserved
-unfolding nearest
-loop-j-preserved c = search (turns, c.nearer-least.ensures)
+pub loop-index-preserved : goal.loop-index-preserved
+loop-index-preserved c = more _ _ _ c.loop-index.invariant c.nearer-least.ensures
 
 pub returns : goal.returns
 unfolding nearest
-returns c = search turns
+returns c = ended _ _ _ 8 (omega arith) (omega arith) c.loop-index.invariant

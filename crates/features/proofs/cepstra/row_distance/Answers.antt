@@ -1,16 +1,15 @@
 -- `features::cepstra::row_distance` meets its contract. Assumes nothing.
-use Rattle.rules.proofs.Loops.{turns}
+use native.Mathlib.Omega.{arith}
+use Rattle.rules.proofs.Loops.{begin, more, ended}
 use Rattle.features.specs.Cepstra.{cepstral_distance}
 use Rattle.features.proofs.cepstra.row_distance.Goals as goal
 
 pub loop-k-init : goal.loop-k-init
-unfolding cepstral_distance
-loop-k-init c = search turns
+loop-k-init c = begin _ _
 
 pub loop-k-preserved : goal.loop-k-preserved
-unfolding cepstral_distance
-loop-k-preserved c = search turns
+loop-k-preserved c = more _ _ _ c.loop-k.invariant (rw (c.start-at_i.ensures, c.start-at_j.ensures))
 
 pub returns : goal.returns
 unfolding cepstral_distance
-returns c = search turns
+returns c = ended _ _ _ 22 (omega arith) (omega arith) c.loop-k.invariant

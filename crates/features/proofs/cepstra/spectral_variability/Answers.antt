@@ -1,21 +1,15 @@
 -- `features::cepstra::spectral_variability` meets its contract. Assumes nothing.
 use native.Mathlib.Omega.{arith}
-use Rattle.rules.proofs.Loops.{turns, ended}
+use Rattle.rules.proofs.Loops.{begin, more, ended}
 use Rattle.features.specs.Cepstra.{variability}
 use Rattle.features.proofs.cepstra.spectral_variability.Goals as goal
 
-pub loop-i-init : goal.loop-i-init
-unfolding variability
-loop-i-init c = search turns
+pub loop-index-init : goal.loop-index-init
+loop-index-init c = begin _ _
 
-pub nearest_row-sum-requires : goal.nearest_row-sum-requires
-unfolding variability
-nearest_row-sum-requires c = search turns
-
-pub loop-i-preserved : goal.loop-i-preserved
-unfolding variability
-loop-i-preserved c = search (turns, c.nearest_row-sum.ensures)
+pub loop-index-preserved : goal.loop-index-preserved
+loop-index-preserved c = more _ _ _ c.loop-index.invariant (rw c.nearest_row-sum.ensures)
 
 pub returns : goal.returns
 unfolding variability
-returns c = rw (ended _ _ _ 8 (omega arith) (omega arith) c.loop-i.invariant.1)
+returns c = rw (ended _ _ _ 8 (omega arith) (omega arith) c.loop-index.invariant)

@@ -1,6 +1,7 @@
 -- `features::pitch::filter` meets its contract: what its parts ensure, put together. Assumes nothing.
 use Rattle.std.specs.Prelude.{◌≡◌}
-use Rattle.rules.proofs.Common.{List, ◌∙◌, Float}
+use Rattle.rules.proofs.Common.{List, Float}
+use borrow.Author.Rules.{rules}
 use Rattle.rules.proofs.Refusals.{left}
 use Rattle.bands.specs.Bands.{band_gain}
 use Rattle.features.specs.Pitch.{pitch_gains, pitch_added, restored, pitch_filtered}
@@ -16,5 +17,5 @@ pub returns : goal.returns
 returns c =
     together _ _ _ _ _ _ _ _ _ _ c.gains_of.ensures
     (left c.interp_band_gain.ensures
-    (record { bins = c.requires.places_fit.1; from = c.gains_of.auto.r ∙ c.requires.places_fit.0 }))
+    (search rules))
     c.add_pitch.ensures c.restore.ensures

@@ -18,4 +18,4 @@ returns c =
     (left c.compute_band_corr.ensures (search rules))
     c.renormalise.ensures
     (left c.interp_band_gain.ensures (search rules))
-    (left c.apply_gains.ensures (search rules))
+    c.scale_bins.ensures

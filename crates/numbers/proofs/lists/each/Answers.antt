@@ -15,4 +15,4 @@ loop-x-preserved g c =
 pub returns : goal.returns
 returns g c =
     let l = c.loop-x in
-    λ h gives. mapping_ended h nan _ l.x-index _ (omega arith) (omega arith) refl (l.invariant h gives)
+    λ h gives. mapping_ended h nan _ l.x-index _ {now = l.xs} (omega arith) (omega arith) refl (l.invariant h gives)

@@ -1,7 +1,8 @@
-use borrow.Author.Rules.{rules}
+use mathlib.Core.Path.{◌∙◌}
 use Rattle.sheet.specs.Sheet.{four}
+use Rattle.sheet.proofs.Digits.{four_mod}
 use Rattle.wav.proofs.bytes.four_of.Goals as goal
 
 pub returns : goal.returns
 unfolding four
-returns c = search rules
+returns c = c.to_le_bytes.ensures ∙ four_mod _
