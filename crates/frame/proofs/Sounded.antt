@@ -1,11 +1,9 @@
 -- A frame is silent or heard, as its sound says. Assumes nothing.
-use Rattle.std.specs.Prelude.{◌∷◌, ◌≡◌}
+use Rattle.std.specs.Prelude.{Option, Some, None, ◌∷◌, ◌≡◌}
 use Rattle.rules.proofs.Common.{ℕ, Bool, true, false, cond, List, [], refl, ap}
 use Rattle.rules.proofs.Common.{Float}
 use Rattle.rules.specs.Place.{get}
 use Rattle.features.specs.Silence.{energy, is_silent, sound_of}
-use Rattle.features.specs.declared.Sound.{Sound}
-use Rattle.features.specs.declared.Sound.TheVariants as sound
 use Rattle.model.specs.declared.Model.{Model}
 use Rattle.frame.specs.Reply.{Silent, Heard}
 use Rattle.frame.specs.Share.{kept_x, kept_ex}
@@ -22,28 +20,27 @@ module _ (share : List Float) (index : ℕ) (spectrum logs : List Float) (bytes 
   abbrev sum : Float
   sum = energy (get kept_ex share)
 
-  pub is_silent_lem : {s : Sound} {out : List Float} → s ≡ sound_of sum → ((e : Float) → s ≡ sound.Heard e → ⊥)
-      → out ≡ get kept_x share
+  pub is_silent_lem : {out : List Float} → None ≡ sound_of sum → out ≡ get kept_x share
       → Worked (done3 share index spectrum logs bytes m) Silent share (held ∷ []) (out ∷ [])
   unfolding done3 sound_of
-  is_silent_lem {s} {out} e q x = go (is_silent sum) e
+  is_silent_lem {out} e x = go (is_silent sum) e
     where
-      go : (t : Bool) → s ≡ cond t sound.Silent (sound.Heard sum)
+      go : (t : Bool) → None ≡ cond t None (Some sum)
           → Worked (cond t (silent share) (heard sum whole)) Silent share (held ∷ []) (out ∷ [])
       go true h = record { answers = refl; keeps = refl; writes = ap (λ (l : List Float). l ∷ []) x }
-      go false h = absurd (q sum h)
+      go false h = cc
 
-  pub is_heard_lem : {after out : List Float} {voice energy : Float} → sound.Heard energy ≡ sound_of sum
+  pub is_heard_lem : {after out : List Float} {voice energy : Float} → Some energy ≡ sound_of sum
       → spoken_as after voice out ≡ whole
       → Worked (done3 share index spectrum logs bytes m) (Heard voice energy) after (held ∷ []) (out ∷ [])
   unfolding done3 sound_of
   is_heard_lem {after} {out} {voice} {energy} e x = rw (← x) (go (is_silent sum) e)
     where
-      go : (t : Bool) → sound.Heard energy ≡ cond t sound.Silent (sound.Heard sum)
+      go : (t : Bool) → Some energy ≡ cond t None (Some sum)
           → Worked (cond t (silent share) (heard sum (spoken_as after voice out))) (Heard voice energy) after
           (held ∷ []) (out ∷ [])
       go true h = cc
       go false h = rw (sound_heard h) (record { answers = refl; keeps = refl; writes = refl })
         where
-          sound_heard : sound.Heard energy ≡ sound.Heard sum → energy ≡ sum
+          sound_heard : Some energy ≡ Some sum → energy ≡ sum
           sound_heard k = cc

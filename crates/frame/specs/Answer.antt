@@ -17,7 +17,7 @@ reply_told (told.Numbered frames heard) = Numbered frames heard
 -- Why a call is refused.
 abbrev pub reply_refused : Cause → Reply
 reply_refused (cause.Plain refusal) = Refused (number_of refusal)
-reply_refused (cause.Model misread) = Misread misread.number misread.layer
+reply_refused (cause.Model misread) = Misread (number_of misread.refusal) misread.layer
 
 abbrev pub reply_of : Result Told Cause → Reply
 reply_of (Ok told) = reply_told told

@@ -3,8 +3,13 @@ use Rattle.std.specs.Prelude.{◌≡◌}
 use Rattle.rules.specs.Common.{ℕ, List, Float}
 use Rattle.model.specs.Model.{read_of}
 use Rattle.model.specs.declared.Model.{Model}
-use Rattle.model.specs.Reading.{Good}
+use Rattle.model.specs.Reading.{Reading, Good, Refused}
 use Rattle.frame.specs.Heard.{Featured, Rnn, Spoken}
+
+-- A file reads as a model.
+abbrev pub IsModel : Reading → Type 0
+IsModel (Good m) = Unit
+IsModel (Refused n l) = ⊥
 
 -- P holds of the model, if the bytes read as one.
 abbrev pub Reads : List ℕ → (Model → Type 0) → Type 0

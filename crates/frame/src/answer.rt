@@ -2,6 +2,7 @@
 ghost use Rattle.std.specs.Prelude.{◌≡◌};
 ghost use Rattle.frame.specs.declared.answer.Cause.TheVariants.{Plain, Model};
 
+use model::Misread;
 use rules::Refusal;
 
 // What a call that is done tells.
@@ -17,15 +18,8 @@ pub enum Told {
     Numbered { frames: u32, heard: u32 },
 }
 
-// Why a model does not read: the number of its file's refusal, and the layer where that is.
-#[derive(Clone, Copy, Debug, PartialEq, Eq)]
-pub struct Misread {
-    pub number: u32,
-    pub layer: u32,
-}
-
 // Why a call is refused.
-#[derive(Clone, Copy, Debug, PartialEq, Eq)]
+#[derive(Clone, Copy)]
 pub enum Cause {
     // For one of its own refusals.
     Plain(Refusal),

@@ -9,39 +9,25 @@ ghost use Rattle.frame.specs.Share.{kept_x, kept_ex, lastg};
 ghost use Rattle.frame.specs.Heard.{energies, featured, rnn_of, held_gains, spoken_from, spoken};
 ghost use Rattle.frame.specs.Effect.{Worked};
 ghost use Rattle.frame.specs.Frame.{done3, counted, checked};
-ghost use Rattle.frame.specs.Private.{Reads, featured_as, rnn_as, spoken_as};
+ghost use Rattle.frame.specs.Private.{IsModel, Reads, featured_as, rnn_as, spoken_as};
 ghost use Rattle.frame.specs.Answer.{reply_told, reply_of_test};
 
-use crate::{Cause, Hearing, Misread, Told};
-use features::Sound;
-use model::Reading;
+use crate::{Cause, Hearing, Told};
 use rules::Refusal;
 
 // The model's test: refused with 7 if it does not read, and with 8 if it has other GRU sizes.
 #[tactic(auto, using(rules::proofs::Tests::tests), unfolding(crate::specs::Frame::checked))]
-fn judge(read: Reading, hearing: Hearing) -> Result<(), Cause>
-    ensures { reply_of_test result ≡ checked (counted hearing) read }
-{
-    match read {
-        Reading::Refused(number, layer) => Err(Cause::Model(Misread { number, layer })),
-        Reading::Good(m) => {
-            let same = m.vad_gru.neurons == hearing.vad
-                && m.noise_gru.neurons == hearing.noise
-                && m.denoise_gru.neurons == hearing.denoise;
-            if same {
-                Ok(())
-            } else {
-                Err(Cause::Plain(Refusal::OtherCounts))
-            }
-        }
-    }
-}
-
-// The same of a model file.
 pub fn check(model: &[u8], hearing: Hearing) -> Result<(), Cause>
     ensures { reply_of_test result ≡ checked (counted hearing) (read_of model.now) }
 {
-    judge(model::read(model), hearing)
+    let m = model::read(model)?;
+    if m.vad_gru.neurons != hearing.vad
+        || m.noise_gru.neurons != hearing.noise
+        || m.denoise_gru.neurons != hearing.denoise
+    {
+        return Err(Cause::Plain(Refusal::OtherCounts));
+    }
+    Ok(())
 }
 
 // Computes the features and the correlations, and stores the new cepstrum. x and ex are those that the share
@@ -75,18 +61,20 @@ fn compute_features(
         ep,
         lag,
         logs,
-    );
+    )
+    .unwrap();
 }
 
 // Runs the network on the states in the share. Gives the gains and returns the voice.
 fn compute_rnn(share: &mut [f32], gains: &mut [f32], model: &[u8], features: &[f32]) -> f32
-    requires { (length share.old ≡ 3778) × (length gains.old ≡ 22) × (length features.now ≡ 42) }
+    requires sizes { (length share.old ≡ 3778) × (length gains.old ≡ 22) × (length features.now ≡ 42) }
+    requires reads { IsModel (read_of model.now) }
     ensures { Reads model.now
         (λ m. rnn_as share.new gains.new result
         ≡ rnn_of share.old features.now model.now m) }
 {
     let mut voice = [0.0f32; 1];
-    network::compute_on(gains, &mut voice, &mut share[3392..3776], model, features);
+    network::compute_on(gains, &mut voice, &mut share[3392..3776], model, features).unwrap();
     voice[0]
 }
 
@@ -95,7 +83,7 @@ fn apply_in(out: &mut [f32], gf: &mut [f32], gains: &[f32])
     ensures { out.new ≡ applied out.old (band_gain gains.now) }
 {
     bands::interp_band_gain(gf, gains).unwrap();
-    features::apply_gains(out, gf);
+    features::apply_gains(out, gf).unwrap();
 }
 
 fn apply(out: &mut [f32], gains: &[f32])
@@ -114,7 +102,7 @@ fn apply_gain(share: &mut [f32], out: &mut [f32], gains: &mut [f32])
     ensures out_after { out.new
         ≡ applied out.old (band_gain (held_gains share.old gains.old)) }
 {
-    features::hold_gains(gains, &mut share[3194..3216]);
+    features::hold_gains(gains, &mut share[3194..3216]).unwrap();
     apply(out, gains);
 }
 
@@ -138,7 +126,7 @@ fn filter_and_apply_gain(
         ep.now)
         (band_gain (held_gains share.old gains.old)) }
 {
-    features::pitch_filter(out, p, gains, exp, ex, ep);
+    features::pitch_filter(out, p, gains, exp, ex, ep).unwrap();
     apply_gain(share, out, gains);
 }
 
@@ -159,6 +147,7 @@ fn process_heard_in(
         × (length gains.old ≡ 22) × (index ≤ 7) }
     requires lent_sizes { (length p.now ≡ 961) × (length ep.now ≡ 22) × (length logs.now ≡ 22) }
     requires as_kept { (out.old ≡ get kept_x share.old) × (ex.now ≡ get kept_ex share.old) }
+    requires reads { IsModel (read_of model.now) }
     ensures { Reads model.now (λ m. spoken_as share.new result out.new
         ≡ spoken_from share.old index p.now ep.now logs.now
         model.now m) }
@@ -184,6 +173,7 @@ fn process_heard(
     requires sizes { (length share.old ≡ 3778) × (index ≤ 7) × (length p.now ≡ 961) × (length ep.now ≡ 22)
         × (length logs.now ≡ 22) }
     requires as_kept { (out.old ≡ get kept_x share.old) × (ex.now ≡ get kept_ex share.old) }
+    requires reads { IsModel (read_of model.now) }
     ensures { Reads model.now (λ m. spoken_as share.new result out.new
         ≡ spoken_from share.old index p.now ep.now logs.now
         model.now m) }
@@ -220,6 +210,7 @@ fn hear_in(
     requires sizes { (length share.old ≡ 3778) × (out.old ≡ get kept_x share.old) × (index ≤ 7)
         × (length spectrum.now ≡ 961) × (length logs.now ≡ 22) }
     requires lent_sizes { (length p.old ≡ 961) × (length ex.old ≡ 22) × (length ep.old ≡ 22) }
+    requires reads { IsModel (read_of model.now) }
     ensures { Reads model.now (λ m. spoken_as share.new result out.new
         ≡ spoken share.old index spectrum.now logs.now model.now m) }
 {
@@ -237,8 +228,9 @@ fn hear(
     logs: &[f32],
     model: &[u8],
 ) -> f32
-    requires { (length share.old ≡ 3778) × (out.old ≡ get kept_x share.old) × (index ≤ 7)
+    requires sizes { (length share.old ≡ 3778) × (out.old ≡ get kept_x share.old) × (index ≤ 7)
         × (length spectrum.now ≡ 961) × (length logs.now ≡ 22) }
+    requires reads { IsModel (read_of model.now) }
     ensures { Reads model.now (λ m. spoken_as share.new result out.new
         ≡ spoken share.old index spectrum.now logs.now model.now m) }
 {
@@ -259,18 +251,19 @@ pub(crate) fn listen(
     logs: &[f32],
     model: &[u8],
 ) -> Told
-    requires { (length share.old ≡ 3778) × (length out.old ≡ 961) × (index ≤ 7)
+    requires sizes { (length share.old ≡ 3778) × (length out.old ≡ 961) × (index ≤ 7)
         × (length spectrum.now ≡ 961) × (length logs.now ≡ 22) }
+    requires reads { IsModel (read_of model.now) }
     ensures { Reads model.now (λ m. Worked
         (done3 share.old index spectrum.now logs.now model.now m)
         (reply_told result) share.new (out.old ∷ []) (out.new ∷ [])) }
 {
     rules::copy(out, &share[2208..3169]).unwrap();
-    match features::listen(&share[3169..3191]) {
-        Sound::Heard(energy) => {
+    match features::listen(&share[3169..3191]).unwrap() {
+        None => Told::Silent,
+        Some(energy) => {
             let voice = hear(share, out, index, spectrum, logs, model);
             Told::Heard { voice, energy }
         }
-        _ => Told::Silent,
     }
 }

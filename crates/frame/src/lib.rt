@@ -14,7 +14,7 @@ mod input;
 mod lagged;
 mod output;
 
-pub use answer::{Cause, Misread, Told};
+pub use answer::{Cause, Told};
 pub use heard::check;
 use numbers::Memory;
 use rules::Refusal;

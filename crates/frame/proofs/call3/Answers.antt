@@ -3,7 +3,7 @@ use Rattle.std.specs.Prelude.{◌∷◌}
 use Rattle.rules.proofs.Common.{[], refl, length}
 use native.Mathlib.Omega.{arith}
 use Rattle.model.specs.Model.{read_of}
-use Rattle.frame.proofs.Answered.{passed_on, refused_lem}
+use Rattle.frame.proofs.Answered.{tested_good, passed_on, refused_lem}
 use Rattle.frame.specs.Frame.{counted, done3}
 use Rattle.frame.proofs.Done.{call3_done, modelled_no, modelled_yes}
 use Rattle.frame.proofs.call3.Goals as goal
@@ -29,3 +29,6 @@ returns c =
     (modelled_yes (counted a.hearing) a.share.now (a.out.now ∷ [])
     (done3 a.share.now a.hearing.index a.spectrum.now a.logs.now a.model.now)
     (read_of a.model.now) c.in_ok-check.ensures refl c.listen.ensures)
+
+pub listen-requires-clause-reads : goal.listen-requires-clause-reads
+listen-requires-clause-reads c = tested_good (counted c.args.hearing) (read_of c.args.model.now) c.in_ok-check.ensures

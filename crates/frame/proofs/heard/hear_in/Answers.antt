@@ -12,7 +12,7 @@ unfolding get
 process_heard-requires c =
     let pre = c.requires in
     let ex = fitted c.copy.ensures (pre.lent_sizes.1 ∙ sym (ex_size c.args.share.now pre.sizes.0)) in
-    record { sizes = omega (arith, pre, c.transform.auto); as_kept = (pre.sizes.1, ex) }
+    record { sizes = omega (arith, pre, c.transform.auto); as_kept = (pre.sizes.1, ex); reads = pre.reads }
 
 pub returns : goal.returns
 returns c = λ m good.

@@ -10,6 +10,7 @@ process_heard_in-requires c =
       sizes = (pre.sizes.0, refl, refl, refl, pre.sizes.1);
       lent_sizes = (pre.sizes.2, pre.sizes.3, pre.sizes.4);
       as_kept = pre.as_kept;
+      reads = pre.reads;
     }
 
 pub returns : goal.returns
