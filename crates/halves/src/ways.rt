@@ -12,11 +12,10 @@ fn find(share: &mut [f32]) -> Lag
     ensures lag_told { result.0 ≡ lag_by Nnnoiseless share.old }
     ensures share_after { share.new ≡ remembered Nnnoiseless share.old }
 {
-    let found = finder::find(share[3776], share[3777], &share[0..1728]);
-    let period = found.period();
-    share[3776] = period as f32;
-    share[3777] = found.gain();
-    Lag(period)
+    let found = finder::find(share[3776], share[3777], &share[0..1728]).unwrap();
+    share[3776] = found.period as f32;
+    share[3777] = found.gain;
+    Lag(found.period)
 }
 
 // The lag of a way. What is remembered of it is stored.
