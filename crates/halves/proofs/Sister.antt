@@ -1,7 +1,7 @@
 -- The sister of call 2 is call 2 with the lag that is found: what holds of call 2 with any lag holds of it.
 -- Assumes nothing.
 use Rattle.std.specs.Prelude.{◌∷◌, ◌≡◌, Result, Ok, Err}
-use Rattle.rules.proofs.Common.{ℕ, List, [], ap, ◌∙◌, length, Float}
+use Rattle.rules.proofs.Common.{ℕ, List, [], length, Float}
 use native.Mathlib.Omega.{arith}
 use borrow.Author.Tests.{le-ltb}
 use Rattle.rules.specs.declared.refusal.Refusal.{Refusal}

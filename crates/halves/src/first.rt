@@ -21,7 +21,12 @@ fn analyse(share: &mut [f32], way: Way, window: &mut [f32], sums: &mut [f32]) ->
 
 // The first half. Takes 480 samples and writes 22 sums, whose logarithms the second half needs.
 #[tactic(auto, using(rules::proofs::Tests::tests), unfolding(crate::specs::Halves::first_half))]
-pub fn first_half(share: &mut [f32], way: Way, samples: &[f32], sums: &mut [f32]) -> Result<Told, Cause>
+pub fn first_half(
+    share: &mut [f32],
+    way: Way,
+    samples: &[f32],
+    sums: &mut [f32],
+) -> Result<Told, Cause>
     ensures { Worked (first_half share.old way samples.now (length sums.old))
         (reply_of result) share.new (sums.old ∷ []) (sums.new ∷ []) }
 {

@@ -8,8 +8,7 @@ use frame::{Cause, Lag, Told};
 use rules::Refusal;
 
 // Call 2 with our own lag. Takes the first spectrum and writes 960 windowed numbers and 22 sums.
-#[tactic(auto, using(rules::proofs::Tests::tests),
-    unfolding(crate::specs::Own::call2_own, frame::specs::Frame::call2))]
+#[tactic(auto, using(rules::proofs::Tests::tests), unfolding(crate::specs::Own::call2_own, frame::specs::Frame::call2))]
 pub fn call2_own(
     share: &mut [f32],
     spectrum: &[f32],
