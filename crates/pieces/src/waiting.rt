@@ -58,7 +58,7 @@ pub(crate) fn settle(share: &mut [f32], first: &[f32])
     requires { (length share.old ≡ 6144) × (length first.now ≡ 480) }
     ensures { share.new ≡ put (waiting_place 479) share.old (take 479 first.now) }
 {
-    rules::copy(&mut share[FROM..TO], &first[0..479]);
+    rules::copy(&mut share[FROM..TO], &first[0..479]).unwrap();
 }
 
 // Lets nothing wait.
