@@ -8,6 +8,7 @@ pub mod Noted
 mod Pieced
 pub mod Ranged
 pub mod Replies
+pub mod Results
 mod Serve
 pub mod Turned
 mod Twice

@@ -4,7 +4,7 @@ use Rattle.rules.proofs.Common.{ℕ, Bool, true, false, refl, ap, ◌∙◌}
 use Rattle.frame.specs.Reply.{passed}
 use Rattle.frame.specs.Reply.{Reply}
 use Rattle.desk.specs.declared.Record.{Record}
-use Rattle.desk.specs.declared.Answer.{Answer}
+use Rattle.desk.specs.Answer.{Answer}
 use Rattle.desk.specs.Desk.{numbered, carried}
 use Rattle.desk.specs.Private.{told_of, told_first, told_second, told_resume}
 

@@ -28,7 +28,7 @@ use Rattle.pieces.proofs.Goods.{good_take, good_drop}
 use Rattle.pieces.proofs.Halved.{Halved, first_length, first_passes, second_length, second_passes}
 use Rattle.pieces.proofs.Padding.{padded_full}
 use Rattle.pieces.proofs.Shares.{part_length, waiting_length, frame_length, frame_back, frame_frame}
-use Rattle.desk.specs.declared.Answer.{Answer}
+use Rattle.desk.specs.Answer.{Answer}
 use Rattle.desk.specs.declared.Record.{Record}
 use Rattle.desk.specs.Desk.{holding}
 use Rattle.desk.specs.Private.{told_second}
