@@ -11,5 +11,4 @@ pub mod Replies
 pub mod Results
 mod Serve
 pub mod Turned
-mod Twice
 pub mod Zeros
