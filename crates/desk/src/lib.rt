@@ -9,14 +9,15 @@ ghost use Rattle.desk.specs.Gate.{in_pieces, in_range, is_due, gate};
 ghost use Rattle.desk.specs.Desk.{opening, call1, call2, call2_own, call3, call4, first_half, second_half, piece};
 ghost use Rattle.desk.specs.Desk.{resume, record_of, holding, next_index, next_hearing, next_heard, next_due};
 ghost use Rattle.desk.specs.Desk.{advanced, numbered, carried, desk};
+ghost use Rattle.model.specs.Reading.{reading_of};
 ghost use Rattle.desk.specs.Answer.{answer_of};
 ghost use Rattle.desk.specs.Private.{Admits, told_of, told_fourth, told_first, told_second, told_piece, told_resume};
 ghost use Rattle.desk.specs.Private.{opened_of};
 ghost use Rattle.frame.specs.Answer.{reply_of, reply_told};
 ghost use Rattle.frame.specs.Effect.{Worked};
 
-use frame::{Cause, Hearing, Lag, Misread, Told, Way};
-use model::Reading;
+use frame::{Cause, Hearing, Lag, Told, Way};
+use model::{Misread, Model};
 use rules::Refusal;
 
 // A side, which is a bench: 0 to 15, the even ones left and the odd ones right.
@@ -431,22 +432,18 @@ fn told_resume(
 }
 
 // The answer to an opening, once the model is read.
-fn opened(rec: Record, way: Way, read: Reading) -> Result<(Told, Record), Cause>
-    ensures { answer_of rec result ≡ opened_of rec way read }
+fn opened(rec: Record, way: Way, read: Result<Model, Misread>) -> Result<(Told, Record), Cause>
+    ensures { answer_of rec result ≡ opened_of rec way (reading_of read) }
 {
-    match read {
-        Reading::Refused(number, layer) => Err(Misread { number, layer }.into()),
-        Reading::Good(m) => {
-            let hearing = Hearing {
-                index: 0,
-                vad: m.vad_gru.neurons,
-                noise: m.noise_gru.neurons,
-                denoise: m.denoise_gru.neurons,
-                way,
-            };
-            Ok((Told::Done, record_of(1, hearing, FIRST, FIRST)))
-        }
-    }
+    let m = read?;
+    let hearing = Hearing {
+        index: 0,
+        vad: m.vad_gru.neurons,
+        noise: m.noise_gru.neurons,
+        denoise: m.denoise_gru.neurons,
+        way,
+    };
+    Ok((Told::Done, record_of(1, hearing, FIRST, FIRST)))
 }
 
 // An opening in a way: a model that reads wipes the side's share and makes call 1 due. It has no answer buffer.
