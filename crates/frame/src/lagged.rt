@@ -15,8 +15,8 @@ fn scale(out: &mut [f32], spectrum: &[f32])
     ensures { out.new ≡ scaled spectrum.now }
 {
     let norm = bands::wnorm();
-    for i in 0..961 {
-        out[i] = spectrum[i] * norm;
+    for (i, bin) in out.iter_mut().enumerate() {
+        *bin = spectrum[i] * norm;
     }
 }
 
@@ -35,8 +35,8 @@ fn lift(ex: &mut [f32])
     requires { length ex.old ≡ 22 }
     ensures { ex.new ≡ plus_hundredth ex.old }
 {
-    for i in 0..22 {
-        ex[i] = 0.01 + ex[i];
+    for energy in ex.iter_mut() {
+        *energy = 0.01 + *energy;
     }
 }
 

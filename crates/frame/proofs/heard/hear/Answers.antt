@@ -1,17 +1,17 @@
--- `frame::heard::hear_in` meets its contract: what each call leaves, in a row. Assumes nothing.
+-- `frame::heard::hear` meets its contract: what each call leaves, in a row. Assumes nothing.
 use Rattle.rules.proofs.Common.{List, sym, ap₂, ◌∙◌, Float}
 use native.Mathlib.Omega.{arith}
 use Rattle.rules.specs.Place.{get}
 use Rattle.rules.proofs.Refusals.{left as fitted}
 use Rattle.frame.specs.Heard.{spoken_from}
 use Rattle.frame.proofs.Sizes.{ex_size}
-use Rattle.frame.proofs.heard.hear_in.Goals as goal
+use Rattle.frame.proofs.heard.hear.Goals as goal
 
 pub process_heard-requires : goal.process_heard-requires
 unfolding get
 process_heard-requires c =
     let pre = c.requires in
-    let ex = fitted c.copy.ensures (pre.lent_sizes.1 ∙ sym (ex_size c.args.share.now pre.sizes.0)) in
+    let ex = fitted c.copy.ensures (sym (ex_size c.args.share.now pre.sizes.0)) in
     record { sizes = omega (arith, pre, c.transform.auto); as_kept = (pre.sizes.1, ex); reads = pre.reads }
 
 pub returns : goal.returns

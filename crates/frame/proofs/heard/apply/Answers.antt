@@ -1,9 +1,9 @@
--- `frame::heard::apply_in` meets its contract: what each call leaves, in a row. Assumes nothing.
+-- `frame::heard::apply` meets its contract: what each call leaves, in a row. Assumes nothing.
 use mathlib.Core.Path.{ap, ◌∙◌}
 use native.Mathlib.Omega.{arith}
 use Rattle.rules.proofs.Refusals.{left as fitted}
 use Rattle.features.specs.Pitch.{applied}
-use Rattle.frame.proofs.heard.apply_in.Goals as goal
+use Rattle.frame.proofs.heard.apply.Goals as goal
 
 pub returns : goal.returns
 returns c =
