@@ -78,6 +78,7 @@ fn compute_rnn(share: &mut [f32], gains: &mut [f32], model: &[u8], features: &[f
     voice[0]
 }
 
+#[tactic(auto, using(rules::proofs::Refusals::left))]
 fn apply(out: &mut [f32], gains: &[f32])
     requires { (length out.old ≡ 961) × (length gains.now ≡ 22) }
     ensures { out.new ≡ applied out.old (band_gain gains.now) }
@@ -100,6 +101,7 @@ fn apply_gain(share: &mut [f32], out: &mut [f32], gains: &mut [f32])
 }
 
 // The pitch filter, with the network's own gains; then the gains are raised, remembered and applied.
+#[tactic(auto, using(rules::proofs::Refusals::left))]
 fn filter_and_apply_gain(
     share: &mut [f32],
     out: &mut [f32],

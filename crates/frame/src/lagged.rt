@@ -21,6 +21,7 @@ fn scale(out: &mut [f32], spectrum: &[f32])
 }
 
 // p becomes the scaled spectrum, and ep its band energies.
+#[tactic(auto, using(rules::proofs::Refusals::left), unfolding(crate::specs::Heard::energies))]
 pub(crate) fn transform(p: &mut [f32], ep: &mut [f32], spectrum: &[f32])
     requires { (length p.old ≡ 961) × (length ep.old ≡ 22) × (length spectrum.now ≡ 961) }
     ensures p_after { p.new ≡ scaled spectrum.now }
@@ -41,6 +42,7 @@ fn lift(ex: &mut [f32])
 }
 
 // Stores the scaled spectrum in the share, and its band energies in ex.
+#[tactic(auto, unfolding(rules::specs::Place::put))]
 fn analyse(share: &mut [f32], spectrum: &[f32], ex: &mut [f32])
     requires { (length share.old ≡ 3778) × (length spectrum.now ≡ 961) × (length ex.old ≡ 22) }
     ensures share_after { share.new ≡ put kept_x share.old (scaled spectrum.now) }
@@ -60,6 +62,7 @@ fn keep(share: &mut [f32], ex: &[f32], lag: Lag)
 }
 
 // What call 2 does after its window is written.
+#[tactic(auto, unfolding(crate::specs::Frame::put_kept))]
 pub(crate) fn note(share: &mut [f32], spectrum: &[f32], lag: Lag, sums: &mut [f32])
     requires { (length share.old ≡ 3778) × (length spectrum.now ≡ 961) × (length sums.old ≡ 22)
         × (lag.0 ≤ 768) }

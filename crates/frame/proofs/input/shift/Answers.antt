@@ -1,6 +1,6 @@
 -- `frame::input::shift` meets its contract. Assumes nothing.
 use Rattle.std.specs.Prelude.{◌+◌, ◌≡◌}
-use Rattle.rules.proofs.Common.{ℕ, List, sym, ap, ◌∙◌, length, take, drop, length-take, length-drop, nan, Float}
+use Rattle.rules.proofs.Common.{List, sym, ap, ◌∙◌, length, take, drop, length-take, length-drop, nan, Float}
 use native.Mathlib.Omega.{arith}
 use lib.Seq.{take_at}
 use Rattle.rules.specs.F32.{at}
