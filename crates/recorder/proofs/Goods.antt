@@ -1,4 +1,5 @@
 -- What is written by calls that are accepted is a good recording. Assumes nothing.
+use Rattle.recording.specs.Verdict.{told_as}
 use Rattle.std.specs.Prelude.{◌+◌, ◌*◌, ◌/◌, ◌%◌, ◌^◌, ◌≤◌, ◌<◌, ◌∷◌, ◌++◌, ◌≡◌}
 use Rattle.rules.proofs.Common.{ℕ, zero, suc, Bool, true, false, cond, not}
 use Rattle.rules.proofs.Common.{List, [], refl}
@@ -28,7 +29,6 @@ use Rattle.sheet.proofs.Laying.{length_records, records_append}
 use Rattle.sheet.proofs.Back.{drop_bytes, record_back}
 use Rattle.recording.specs.Recording.{frames_of, entry, entries_from, head_for, chunk_for, recording_bytes, MOST, Good}
 use Rattle.recording.specs.Verdict.{was_heard, heard_in, is_size, how_many, verdict_of}
-use Rattle.recording.specs.declared.Verdict.TheVariants.{Told}
 use Rattle.recording.specs.Numbers.{side_at}
 use Rattle.recording.specs.declared.Front.{Front}
 use Rattle.recording.proofs.Cuts.{entries_append}
@@ -349,7 +349,7 @@ module _ (f : Front) (small : f.first < 2 ^ 32) where
               heard_is);
           noted = so.are ∙ ap (λ (hs : List Bool). records_of (number_of f.side) (entries_from f.first hs)) (sym
               heard_is);
-          told = ap verdict_of in_a_row ∙ as-it-is ∙ ap (λ (hs : List Bool). Told f (length hs) (how_many hs)) (sym
+          told = ap verdict_of in_a_row ∙ as-it-is ∙ ap (λ (hs : List Bool). told_as f (length hs) (how_many hs)) (sym
               heard_is);
         }
 
