@@ -4,9 +4,12 @@ ghost use Rattle.fft.specs.Fast.{complex_at, turned_back};
 ghost use Rattle.fft.specs.Single.{single, of};
 ghost use Rattle.fft.specs.Private.{cx, put_four, put_complex};
 
-#[derive(Drop)]
+// A complex number.
+#[derive(Clone, Copy)]
 pub(crate) struct Cx {
+    // Its real part.
     pub re: f32,
+    // Its imaginary part.
     pub im: f32,
 }
 
@@ -48,8 +51,8 @@ pub(crate) fn put_four(out: &mut [f32], at: usize, a: f32, b: f32, c: f32, d: f3
 }
 
 // Stores four neighbouring complex numbers.
-pub(crate) fn put(out: &mut [f32], at: usize, w: Cx, x: Cx, y: Cx, v: Cx)
-    requires { (length out.old ≡ 960) × (at + 4 ≤ 480) }
+pub(crate) fn put(out: &mut [f32; 960], at: usize, w: Cx, x: Cx, y: Cx, v: Cx)
+    requires { at + 4 ≤ 480 }
     ensures { out.new ≡ put_complex out.old at w x y v }
 {
     put_four(out, at, w.re, x.re, y.re, v.re);

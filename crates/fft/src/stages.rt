@@ -25,7 +25,7 @@ fn lane5(c: &[f32; 960], z: &[f32; 960], i: usize) -> Fives
     five(c, a, b, d, e, f)
 }
 
-fn block5(out: &mut [f32], c: &[f32; 960], z: &[f32; 960], i: usize)
+fn block5(out: &mut [f32; 960], c: &[f32; 960], z: &[f32; 960], i: usize)
     requires laid { Laid 5 96 (row5 single (of c.now) z.now) i out.old }
     requires i_bound { i + 4 ≤ 96 }
     ensures { Laid 5 96 (row5 single (of c.now) z.now) (i + 4) out.new }
@@ -37,8 +37,7 @@ fn block5(out: &mut [f32], c: &[f32; 960], z: &[f32; 960], i: usize)
     put_fives(out, i, w, x, y, v);
 }
 
-fn stage5(out: &mut [f32], c: &[f32; 960], z: &[f32; 960])
-    requires { length out.old ≡ 960 }
+fn stage5(out: &mut [f32; 960], c: &[f32; 960], z: &[f32; 960])
     ensures { out.new ≡ stage 96 (row5 single (of c.now) z.now) }
 {
     for b in 0..12 {
@@ -62,7 +61,7 @@ fn lane3(c: &[f32; 960], z: &[f32; 960], i: usize, k: usize) -> Threes
     three(c, a, b, d)
 }
 
-fn block3(out: &mut [f32], c: &[f32; 960], z: &[f32; 960], i: usize)
+fn block3(out: &mut [f32; 960], c: &[f32; 960], z: &[f32; 960], i: usize)
     requires laid { Laid 3 160 (row3 single (of c.now) 32 z.now) i out.old }
     requires i_bound { (i + 4 ≤ 160) × (i % 4 ≡ 0) }
     ensures { Laid 3 160 (row3 single (of c.now) 32 z.now) (i + 4) out.new }
@@ -75,8 +74,7 @@ fn block3(out: &mut [f32], c: &[f32; 960], z: &[f32; 960], i: usize)
     put_threes(out, i, w, x, y, v);
 }
 
-fn stage3(out: &mut [f32], c: &[f32; 960], z: &[f32; 960])
-    requires { length out.old ≡ 960 }
+fn stage3(out: &mut [f32; 960], c: &[f32; 960], z: &[f32; 960])
     ensures { out.new ≡ stage 160 (row3 single (of c.now) 32 z.now) }
 {
     for b in 0..40 {
@@ -108,7 +106,7 @@ fn lane4(c: &[f32; 960], z: &[f32; 960], i: usize, k: usize) -> Fours
     join4(c, z, 24 * k + i, 8, 16 * k)
 }
 
-fn block4(out: &mut [f32], c: &[f32; 960], z: &[f32; 960], i: usize)
+fn block4(out: &mut [f32; 960], c: &[f32; 960], z: &[f32; 960], i: usize)
     requires laid { Laid 4 120 (row4 single (of c.now) 8 z.now) i out.old }
     requires i_bound { (i + 4 ≤ 120) × (i % 4 ≡ 0) }
     ensures { Laid 4 120 (row4 single (of c.now) 8 z.now) (i + 4) out.new }
@@ -121,8 +119,7 @@ fn block4(out: &mut [f32], c: &[f32; 960], z: &[f32; 960], i: usize)
     put_fours(out, i, w, x, y, v);
 }
 
-fn stage4(out: &mut [f32], c: &[f32; 960], z: &[f32; 960])
-    requires { length out.old ≡ 960 }
+fn stage4(out: &mut [f32; 960], c: &[f32; 960], z: &[f32; 960])
     ensures { out.new ≡ stage 120 (row4 single (of c.now) 8 z.now) }
 {
     for b in 0..30 {
@@ -142,7 +139,7 @@ fn lane2(c: &[f32; 960], z: &[f32; 960], i: usize, k: usize) -> Twos
     two(a, b)
 }
 
-fn block2(out: &mut [f32], c: &[f32; 960], z: &[f32; 960], i: usize)
+fn block2(out: &mut [f32; 960], c: &[f32; 960], z: &[f32; 960], i: usize)
     requires laid { Laid 2 240 (row2 single (of c.now) 4 z.now) i out.old }
     requires i_bound { (i + 4 ≤ 240) × (i % 4 ≡ 0) }
     ensures { Laid 2 240 (row2 single (of c.now) 4 z.now) (i + 4) out.new }
@@ -155,8 +152,7 @@ fn block2(out: &mut [f32], c: &[f32; 960], z: &[f32; 960], i: usize)
     put_twos(out, i, w, x, y, v);
 }
 
-fn stage2(out: &mut [f32], c: &[f32; 960], z: &[f32; 960])
-    requires { length out.old ≡ 960 }
+fn stage2(out: &mut [f32; 960], c: &[f32; 960], z: &[f32; 960])
     ensures { out.new ≡ stage 240 (row2 single (of c.now) 4 z.now) }
 {
     for b in 0..15 {
@@ -180,7 +176,7 @@ fn last(c: &[f32; 960], z: &[f32; 960], i: usize) -> Fours
     join4(c, z, 4 * i, 1, 2 * i)
 }
 
-fn last_block(out: &mut [f32], c: &[f32; 960], z: &[f32; 960], i: usize)
+fn last_block(out: &mut [f32; 960], c: &[f32; 960], z: &[f32; 960], i: usize)
     requires laid { Laid 4 120 (row4 single (of c.now) 1 z.now) i out.old }
     requires i_bound { i + 4 ≤ 120 }
     ensures { Laid 4 120 (row4 single (of c.now) 1 z.now) (i + 4) out.new }
@@ -192,8 +188,7 @@ fn last_block(out: &mut [f32], c: &[f32; 960], z: &[f32; 960], i: usize)
     put_fours(out, i, w, x, y, v);
 }
 
-fn last_stage(out: &mut [f32], c: &[f32; 960], z: &[f32; 960])
-    requires { length out.old ≡ 960 }
+fn last_stage(out: &mut [f32; 960], c: &[f32; 960], z: &[f32; 960])
     ensures { out.new ≡ stage 120 (row4 single (of c.now) 1 z.now) }
 {
     for b in 0..15 {
@@ -205,7 +200,6 @@ fn last_stage(out: &mut [f32], c: &[f32; 960], z: &[f32; 960])
 
 // The transform of z is written to y. z is overwritten.
 pub(crate) fn transform(y: &mut [f32; 960], z: &mut [f32; 960], c: &[f32; 960])
-    requires { (length y.old ≡ 960) × (length z.old ≡ 960) }
     ensures { y.new ≡ transformed single (of c.now) z.old }
 {
     stage5(y, c, z);

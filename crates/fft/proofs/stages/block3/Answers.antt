@@ -3,12 +3,6 @@ use native.Mathlib.Omega.{arith}
 use Rattle.fft.proofs.Laying.{laid_threes}
 use Rattle.fft.proofs.stages.block3.Goals as goal
 
-pub put_threes-requires : goal.put_threes-requires
-put_threes-requires c = (
-  c.requires.laid.long,
-  omega (arith, c.requires.i_bound),
-)
-
 pub returns : goal.returns
 returns c =
     laid_threes _ c.args.i

@@ -3,12 +3,6 @@ use native.Mathlib.Omega.{arith}
 use Rattle.fft.proofs.Laying.{laid_fives}
 use Rattle.fft.proofs.stages.block5.Goals as goal
 
-pub put_fives-requires : goal.put_fives-requires
-put_fives-requires c = (
-  c.requires.laid.long,
-  omega (arith, c.requires.i_bound),
-)
-
 pub returns : goal.returns
 returns c =
     laid_fives _ c.args.i

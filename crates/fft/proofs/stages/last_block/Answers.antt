@@ -3,12 +3,6 @@ use native.Mathlib.Omega.{arith}
 use Rattle.fft.proofs.Laying.{laid_fours}
 use Rattle.fft.proofs.stages.last_block.Goals as goal
 
-pub put_fours-requires : goal.put_fours-requires
-put_fours-requires c = (
-  c.requires.laid.long,
-  omega (arith, c.requires.i_bound),
-)
-
 pub returns : goal.returns
 returns c =
     laid_fours _ c.args.i
