@@ -156,7 +156,7 @@ fn xcorr_sixteens(xs: &[f32], ys: &[f32], xcorr: &mut [f32])
 {
     for k in 0..xcorr.len() / 16 {
         let i = 16 * k;
-        lanes::put_sixteen(xcorr, i, lanes::corr16(xs, ys, i));
+        lanes::put(xcorr, i, &lanes::corr_lags::<16>(xs, ys, i));
     }
 }
 
@@ -172,7 +172,7 @@ fn xcorr_fours_left(xs: &[f32], ys: &[f32], xcorr: &mut [f32])
     let n = xcorr.len();
     for k in n / 16 * 4..n / 4 {
         let i = 4 * k;
-        lanes::put_four(xcorr, i, lanes::corr4(xs, ys, i));
+        lanes::put(xcorr, i, &lanes::corr_lags::<4>(xs, ys, i));
     }
 }
 

@@ -11,6 +11,6 @@ loop-k-preserved c =
     let next : 4 * (l.k + 1) ≡ 4 * l.k + 4 = omega arith in (
       omega arith,
       refl,
-      rw next (lags_stored _ _ _ _ refl (4 * l.k) l.invariant.2 (omega arith) c.corr4.ensures
-          c.put_four.ensures),
+      rw next (lags_stored _ _ _ _ (4 * l.k) 4 refl l.invariant.2 (omega arith) c.corr_lags.ensures
+          c.put.ensures),
     )

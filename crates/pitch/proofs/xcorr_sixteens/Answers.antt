@@ -3,7 +3,7 @@ use Rattle.std.specs.Prelude.{◌+◌, ◌*◌, ◌≡◌}
 use Rattle.rules.proofs.Common.{refl}
 use native.Mathlib.Omega.{arith}
 use Rattle.rules.proofs.Lists.{filling_begin}
-use Rattle.pitch.proofs.Sums.{sixteen_stored}
+use Rattle.pitch.proofs.Sums.{lags_stored}
 use Rattle.pitch.proofs.xcorr_sixteens.Goals as goal
 
 pub loop-k-init : goal.loop-k-init
@@ -15,6 +15,6 @@ loop-k-preserved c =
     let next : 16 * (l.k + 1) ≡ 16 * l.k + 16 = omega arith in (
       omega arith,
       refl,
-      rw next (sixteen_stored _ _ _ _ refl (16 * l.k) l.invariant.2 (omega arith)
-          c.corr16.ensures c.put_sixteen.ensures),
+      rw next (lags_stored _ _ _ _ (16 * l.k) 16 refl l.invariant.2 (omega arith)
+          c.corr_lags.ensures c.put.ensures),
     )
