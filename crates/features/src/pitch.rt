@@ -4,6 +4,7 @@ ghost use Rattle.features.specs.Pitch.{strength, ratio, band_pitch_gain, pitch_g
 ghost use Rattle.features.specs.Pitch.{restored, pitch_filtered};
 
 // How much of a band is pitch, by its correlation and its gain.
+#[tactic(auto, unfolding(crate::specs::Pitch::strength))]
 fn strength_of(exp: f32, gain: f32) -> f32
     ensures { result ≡ strength gain exp }
 {
@@ -16,6 +17,7 @@ fn strength_of(exp: f32, gain: f32) -> f32
 }
 
 // The root of the ratio of two energies.
+#[tactic(auto, unfolding(crate::specs::Pitch::ratio))]
 fn energy_ratio(ex: f32, e: f32) -> f32
     ensures { result ≡ ratio ex e }
 {
@@ -23,6 +25,7 @@ fn energy_ratio(ex: f32, e: f32) -> f32
 }
 
 // How much of the lagged signal is added in a band.
+#[tactic(auto, unfolding(crate::specs::Pitch::band_pitch_gain))]
 fn gain_of(exp: f32, gain: f32, ex: f32, ep: f32) -> f32
     ensures { result ≡ band_pitch_gain gain exp ex ep }
 {
@@ -57,6 +60,7 @@ fn add_pitch(x: &mut [f32; 961], p: &[f32; 961], rf: &[f32; 481])
 }
 
 // Brings the energies of the bands of x back to ex. `r` has a place for each band, and `rf` for each bin.
+#[tactic(auto, using(rules::proofs::Refusals::left), unfolding(crate::specs::Pitch::restored))]
 fn restore(x: &mut [f32; 961], ex: &[f32; 22], r: &mut [f32; 22], rf: &mut [f32; 481])
     ensures { x.new ≡ restored x.old ex.now }
 {
@@ -68,6 +72,7 @@ fn restore(x: &mut [f32; 961], ex: &[f32; 22], r: &mut [f32; 22], rf: &mut [f32;
 }
 
 // `pitch_filter` for lengths that fit.
+#[tactic(auto, using(rules::proofs::Refusals::left), unfolding(crate::specs::Pitch::pitch_filtered))]
 pub(crate) fn filter(
     x: &mut [f32; 961],
     p: &[f32; 961],
