@@ -5,17 +5,17 @@
 ghost use Rattle.std.specs.Prelude.{◌≡◌, ◌+◌, ◌*◌, ◌/◌, ◌%◌, ◌≤◌, ◌<◌, length};
 ghost use Rattle.fft.specs.Fast.{complex_at, turned_back, of_four, row2, row3, row4, row5, stage, transformed};
 ghost use Rattle.fft.specs.Single.{single, of};
-ghost use Rattle.fft.specs.Private.{twos, threes, fours, fives, Laid};
+ghost use Rattle.fft.specs.Private.{bins, Laid};
 
-use crate::bins::{Fives, Fours, Threes, Twos, five, four, three, two};
-use crate::complex::{entry, turned};
-use crate::puts::{put_fives, put_fours, put_threes, put_twos};
+use crate::bins::{five, four, three, two};
+use crate::complex::{Cx, entry, turned};
+use crate::puts::put_bins;
 
 // ---- five numbers, 96 apart
 
-fn lane5(c: &[f32; 960], z: &[f32; 960], i: usize) -> Fives
+fn lane5(c: &[f32; 960], z: &[f32; 960], i: usize) -> [Cx; 5]
     requires { i < 96 }
-    ensures { result ≡ fives (row5 single (of c.now) z.now i) }
+    ensures { result ≡ bins 5 (row5 single (of c.now) z.now i) }
 {
     let a = entry(z, i);
     let b = entry(z, i + 96);
@@ -34,7 +34,7 @@ fn block5(out: &mut [f32; 960], c: &[f32; 960], z: &[f32; 960], i: usize)
     let x = lane5(c, z, i + 1);
     let y = lane5(c, z, i + 2);
     let v = lane5(c, z, i + 3);
-    put_fives(out, i, w, x, y, v);
+    put_bins(out, 96, i, w, x, y, v);
 }
 
 fn stage5(out: &mut [f32; 960], c: &[f32; 960], z: &[f32; 960])
@@ -49,9 +49,9 @@ fn stage5(out: &mut [f32; 960], c: &[f32; 960], z: &[f32; 960])
 
 // ---- three numbers, 32 apart
 
-fn lane3(c: &[f32; 960], z: &[f32; 960], i: usize, k: usize) -> Threes
+fn lane3(c: &[f32; 960], z: &[f32; 960], i: usize, k: usize) -> [Cx; 3]
     requires { (i < 160) × (k ≡ i / 32) }
-    ensures { result ≡ threes (row3 single (of c.now) 32 z.now i) }
+    ensures { result ≡ bins 3 (row3 single (of c.now) 32 z.now i) }
 {
     let p = 64 * k + i;
     let t = 64 * k;
@@ -71,7 +71,7 @@ fn block3(out: &mut [f32; 960], c: &[f32; 960], z: &[f32; 960], i: usize)
     let x = lane3(c, z, i + 1, k);
     let y = lane3(c, z, i + 2, k);
     let v = lane3(c, z, i + 3, k);
-    put_threes(out, i, w, x, y, v);
+    put_bins(out, 160, i, w, x, y, v);
 }
 
 fn stage3(out: &mut [f32; 960], c: &[f32; 960], z: &[f32; 960])
@@ -84,9 +84,9 @@ fn stage3(out: &mut [f32; 960], c: &[f32; 960], z: &[f32; 960])
 
 // ---- four numbers, m apart
 
-fn join4(c: &[f32; 960], z: &[f32; 960], p: usize, m: usize, t: usize) -> Fours
+fn join4(c: &[f32; 960], z: &[f32; 960], p: usize, m: usize, t: usize) -> [Cx; 4]
     requires { (p + 3 * m < 480) × (3 * t < 720) }
-    ensures { result ≡ fours (of_four single
+    ensures { result ≡ bins 4 (of_four single
         (complex_at single z.now p)
         (turned_back single (of c.now) t (complex_at single z.now (p + m)))
         (turned_back single (of c.now) (2 * t) (complex_at single z.now (p + 2 * m)))
@@ -99,9 +99,9 @@ fn join4(c: &[f32; 960], z: &[f32; 960], p: usize, m: usize, t: usize) -> Fours
     four(a, b, d, e)
 }
 
-fn lane4(c: &[f32; 960], z: &[f32; 960], i: usize, k: usize) -> Fours
+fn lane4(c: &[f32; 960], z: &[f32; 960], i: usize, k: usize) -> [Cx; 4]
     requires { (i < 120) × (k ≡ i / 8) }
-    ensures { result ≡ fours (row4 single (of c.now) 8 z.now i) }
+    ensures { result ≡ bins 4 (row4 single (of c.now) 8 z.now i) }
 {
     join4(c, z, 24 * k + i, 8, 16 * k)
 }
@@ -116,7 +116,7 @@ fn block4(out: &mut [f32; 960], c: &[f32; 960], z: &[f32; 960], i: usize)
     let x = lane4(c, z, i + 1, k);
     let y = lane4(c, z, i + 2, k);
     let v = lane4(c, z, i + 3, k);
-    put_fours(out, i, w, x, y, v);
+    put_bins(out, 120, i, w, x, y, v);
 }
 
 fn stage4(out: &mut [f32; 960], c: &[f32; 960], z: &[f32; 960])
@@ -129,9 +129,9 @@ fn stage4(out: &mut [f32; 960], c: &[f32; 960], z: &[f32; 960])
 
 // ---- two numbers, 4 apart
 
-fn lane2(c: &[f32; 960], z: &[f32; 960], i: usize, k: usize) -> Twos
+fn lane2(c: &[f32; 960], z: &[f32; 960], i: usize, k: usize) -> [Cx; 2]
     requires { (i < 240) × (k ≡ i / 4) }
-    ensures { result ≡ twos (row2 single (of c.now) 4 z.now i) }
+    ensures { result ≡ bins 2 (row2 single (of c.now) 4 z.now i) }
 {
     let p = 4 * k + i;
     let a = entry(z, p);
@@ -149,7 +149,7 @@ fn block2(out: &mut [f32; 960], c: &[f32; 960], z: &[f32; 960], i: usize)
     let x = lane2(c, z, i + 1, k);
     let y = lane2(c, z, i + 2, k);
     let v = lane2(c, z, i + 3, k);
-    put_twos(out, i, w, x, y, v);
+    put_bins(out, 240, i, w, x, y, v);
 }
 
 fn stage2(out: &mut [f32; 960], c: &[f32; 960], z: &[f32; 960])
@@ -169,9 +169,9 @@ fn stage2(out: &mut [f32; 960], c: &[f32; 960], z: &[f32; 960])
 
 // ---- four numbers side by side
 
-fn last(c: &[f32; 960], z: &[f32; 960], i: usize) -> Fours
+fn last(c: &[f32; 960], z: &[f32; 960], i: usize) -> [Cx; 4]
     requires { i < 120 }
-    ensures { result ≡ fours (row4 single (of c.now) 1 z.now i) }
+    ensures { result ≡ bins 4 (row4 single (of c.now) 1 z.now i) }
 {
     join4(c, z, 4 * i, 1, 2 * i)
 }
@@ -185,7 +185,7 @@ fn last_block(out: &mut [f32; 960], c: &[f32; 960], z: &[f32; 960], i: usize)
     let x = last(c, z, i + 1);
     let y = last(c, z, i + 2);
     let v = last(c, z, i + 3);
-    put_fours(out, i, w, x, y, v);
+    put_bins(out, 120, i, w, x, y, v);
 }
 
 fn last_stage(out: &mut [f32; 960], c: &[f32; 960], z: &[f32; 960])
