@@ -1,5 +1,5 @@
 -- For the contracts of private functions: the sums at some neighbouring lags, side by side.
-use Rattle.std.specs.Prelude.{◌+◌, ◌-◌, ◌%◌, ◌++◌}
+use Rattle.std.specs.Prelude.{◌+◌, ◌++◌}
 use Rattle.rules.specs.Common.{ℕ, List, length, take, drop, Float}
 use Rattle.rules.specs.Loop.{loop}
 use Rattle.rules.specs.F32.{◌⊕◌, ◌⊗◌, at, f32}
@@ -17,10 +17,6 @@ lag_sums xs ys j i n = tab n (λ k. loop j (term_step xs ys (i + k)) (f32 0))
 -- The correlations at n lags from i on.
 unfoldable pub lags_from : List Float → List Float → ℕ → ℕ → List Float
 lags_from xs ys i n = tab n (λ k. corr (f32 0) xs ys (i + k))
-
--- How many of n lags are computed sixteen at a time.
-abbrev pub whole_sixteens : ℕ → ℕ
-whole_sixteens n = n - n % 16
 
 -- Stores neighbouring numbers from place i on.
 abbrev pub stored : List Float → ℕ → List Float → List Float
