@@ -9,8 +9,8 @@ use Rattle.fft.specs.Private.{cx, complex_of, bins}
 use Rattle.fft.specs.declared.complex.Cx.{Cx}
 
 module _ (t : List Float) where
-  pub two_of : {r : List Cx} {a b : Cx} {ea eb : Complex Float} → r ≡ bins 2 (of_two single (complex_of a) (complex_of b))
-      → a ≡ cx ea → b ≡ cx eb
+  pub two_of : {r : List Cx} {a b : Cx} {ea eb : Complex Float}
+      → r ≡ bins 2 (of_two single (complex_of a) (complex_of b)) → a ≡ cx ea → b ≡ cx eb
       → r ≡ bins 2 (of_two single ea eb)
   two_of h pa pb = rw (pa, pb) at h
 

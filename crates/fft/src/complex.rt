@@ -1,8 +1,11 @@
 // A complex number, and lists of 480 of them: 480 real parts, and then 480 imaginary parts.
 ghost use Rattle.std.specs.Prelude.{◌≡◌, ◌+◌, ◌≤◌, ◌<◌, length};
+ghost use Rattle.rules.specs.F32.{◌⊕◌, ◌⊖◌, ◌⊗◌};
 ghost use Rattle.fft.specs.Fast.{complex_at, turned_back};
 ghost use Rattle.fft.specs.Single.{single, of};
-ghost use Rattle.fft.specs.Private.{cx, put_four, put_complex};
+ghost use Rattle.fft.specs.Private.{cx, complex_of, put_four, put_complex};
+
+use std::ops::{Add, Sub};
 
 // A complex number.
 #[derive(Clone, Copy)]
@@ -11,6 +14,77 @@ pub(crate) struct Cx {
     pub re: f32,
     // Its imaginary part.
     pub im: f32,
+}
+
+impl Add for Cx {
+    type Output = Cx;
+
+    ghost add_gives = { λ x y r. r ≡ record { re = x.re ⊕ y.re; im = x.im ⊕ y.im } };
+
+    fn add(self, y: Cx) -> Cx {
+        Cx {
+            re: self.re + y.re,
+            im: self.im + y.im,
+        }
+    }
+}
+
+impl Sub for Cx {
+    type Output = Cx;
+
+    ghost sub_gives = { λ x y r. r ≡ record { re = x.re ⊖ y.re; im = x.im ⊖ y.im } };
+
+    fn sub(self, y: Cx) -> Cx {
+        Cx {
+            re: self.re - y.re,
+            im: self.im - y.im,
+        }
+    }
+}
+
+impl Cx {
+    // A real number times this one.
+    pub(crate) fn times(self, a: f32) -> Cx
+        ensures { result ≡ record { re = a ⊗ self.re; im = a ⊗ self.im } }
+    {
+        Cx {
+            re: a * self.re,
+            im: a * self.im,
+        }
+    }
+
+    // This one plus i times y.
+    pub(crate) fn plus_i(self, y: Cx) -> Cx
+        ensures { result ≡ record { re = self.re ⊖ y.im; im = self.im ⊕ y.re } }
+    {
+        Cx {
+            re: self.re - y.im,
+            im: self.im + y.re,
+        }
+    }
+
+    // This one, turned back by t/960 of a turn.
+    pub(crate) fn turned_back(self, c: &[f32; 960], t: usize) -> Cx
+        requires { t < 720 }
+        ensures { result ≡ cx (turned_back single (of c.now) t (complex_of self)) }
+    {
+        let p = c[t];
+        let q = c[t + 240];
+        Cx {
+            re: self.re * p - self.im * q,
+            im: self.re * q + self.im * p,
+        }
+    }
+
+    // This one minus i times y.
+    pub(crate) fn minus_i(self, y: Cx) -> Cx
+        ensures { result ≡ record { re = self.re ⊕ y.im; im = self.im ⊖ y.re } }
+    {
+        Cx {
+            re: self.re + y.im,
+            im: self.im - y.re,
+        }
+    }
 }
 
 // Entry i of a list.
@@ -29,14 +103,7 @@ pub(crate) fn turned(c: &[f32; 960], z: &[f32; 960], i: usize, t: usize) -> Cx
     requires { (i < 480) × (t < 720) }
     ensures { result ≡ cx (turned_back single (of c.now) t (complex_at single z.now i)) }
 {
-    let p = c[t];
-    let q = c[t + 240];
-    let x = z[i];
-    let y = z[480 + i];
-    Cx {
-        re: x * p - y * q,
-        im: x * q + y * p,
-    }
+    entry(z, i).turned_back(c, t)
 }
 
 // Stores four neighbouring numbers.

@@ -46,16 +46,15 @@ fn split(c: &[f32; 960], k: usize, a: Cx, b: Cx) -> Cx
     ensures { result ≡ cx (split single (of c.now) k (complex_of a) (complex_of b)) }
 {
     let h = c[160];
-    let er = h * (a.re + b.re);
-    let ei = h * (a.im - b.im);
-    let or = h * (a.im + b.im);
-    let oi = h * (b.re - a.re);
-    let p = c[k];
-    let q = c[k + 240];
-    Cx {
-        re: er + (or * p - oi * q),
-        im: ei + (or * q + oi * p),
-    }
+    let even = Cx {
+        re: a.re + b.re,
+        im: a.im - b.im,
+    };
+    let odd = Cx {
+        re: a.im + b.im,
+        im: b.re - a.re,
+    };
+    even.times(h) + odd.times(h).turned_back(c, k)
 }
 
 // Bin k, for k from 1 to 479.
