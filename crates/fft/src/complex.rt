@@ -107,6 +107,7 @@ pub(crate) fn turned(c: &[f32; 960], z: &[f32; 960], i: usize, t: usize) -> Cx
 }
 
 // Stores four neighbouring numbers.
+#[tactic(auto, unfolding(crate::specs::Private::put_four))]
 pub(crate) fn put_four(out: &mut [f32], at: usize, a: f32, b: f32, c: f32, d: f32)
     requires { at + 4 ≤ length out.old }
     ensures { out.new ≡ put_four out.old at a b c d }
@@ -118,6 +119,7 @@ pub(crate) fn put_four(out: &mut [f32], at: usize, a: f32, b: f32, c: f32, d: f3
 }
 
 // Stores four neighbouring complex numbers.
+#[tactic(auto, unfolding(crate::specs::Private::put_complex))]
 pub(crate) fn put(out: &mut [f32; 960], at: usize, w: Cx, x: Cx, y: Cx, v: Cx)
     requires { at + 4 ≤ 480 }
     ensures { out.new ≡ put_complex out.old at w x y v }

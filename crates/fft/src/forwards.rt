@@ -1,4 +1,5 @@
 // What comes before and after the complex transform in the forward transform: samples in, bins out.
+// Stays: the loops of pack and middle_bins: their numbers are counted with, to say where a four begins.
 ghost use Rattle.std.specs.Prelude.{◌≡◌, ◌+◌, ◌*◌, ◌-◌, ◌≤◌, ◌<◌, length};
 ghost use Rattle.rules.specs.Tab.{tab};
 ghost use Rattle.fft.specs.Fast.{pair, as_complex, split, bin_out, number_out};
@@ -121,6 +122,7 @@ fn bin_0(out: &mut [f32; 961], c: &[f32; 960], z: &[f32; 960])
 }
 
 // Stores all bins.
+#[tactic(auto, using(crate::proofs::Laying::filled_all))]
 pub(crate) fn spectrum(out: &mut [f32; 961], c: &[f32; 960], z: &[f32; 960])
     ensures { out.new ≡ tab 961 (number_out single (of c.now) z.now) }
 {

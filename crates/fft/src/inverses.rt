@@ -1,4 +1,5 @@
 // What comes before and after the complex transform in the inverse transform: bins in, samples out.
+// Stays: the loops of other_blocks and samples: their numbers are counted with, to say where a four or a pair begins.
 ghost use Rattle.std.specs.Prelude.{◌≡◌, ◌+◌, ◌*◌, ◌-◌, ◌≤◌, ◌<◌, length};
 ghost use Rattle.rules.specs.Tab.{tab};
 ghost use Rattle.fft.specs.Fast.{bin_in, merged, merged_at, merged_of, sample_out};
@@ -8,6 +9,7 @@ ghost use Rattle.fft.specs.Private.{cx, complex_of, Laid};
 use crate::complex::{Cx, put};
 
 // Bin k of a spectrum, for k from 1 to 479.
+#[tactic(auto, unfolding(crate::specs::Fast::bin_in))]
 fn bin_in(x: &[f32; 961], k: usize) -> Cx
     requires { (0 < k) × (k < 480) }
     ensures { result ≡ cx (bin_in single x.now k) }
@@ -34,6 +36,7 @@ fn merge(c: &[f32; 960], k: usize, a: Cx, b: Cx) -> Cx
 }
 
 // The same from a spectrum, for k from 1 to 479.
+#[tactic(auto, using(crate::proofs::Ends::merged_of_lem))]
 fn merged(c: &[f32; 960], x: &[f32; 961], k: usize) -> Cx
     requires { (0 < k) × (k < 480) }
     ensures { result ≡ cx (merged_at single (of c.now) x.now k) }

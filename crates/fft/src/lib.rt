@@ -19,6 +19,7 @@ mod puts;
 mod stages;
 
 // `forward` for lengths that fit.
+#[tactic(auto, unfolding(crate::specs::Single::fast_forward, crate::specs::Fast::forward_over))]
 fn forward_core(out: &mut [f32; 961], x: &[f32; 960])
     ensures { out.new ≡ fast_forward x.now }
 {
@@ -45,6 +46,7 @@ pub fn forward(out: &mut [f32], x: &[f32]) -> Result<(), Refusal>
 }
 
 // `inverse` for lengths that fit.
+#[tactic(auto, unfolding(crate::specs::Single::fast_inverse, crate::specs::Fast::inverse_over))]
 fn inverse_core(out: &mut [f32; 960], x: &[f32; 961])
     ensures { out.new ≡ fast_inverse x.now }
 {

@@ -2,6 +2,7 @@
 // computed before anything is stored, so that the compiler uses vector instructions for the four. A turn of the loop
 // does several fours, so that there are fewer than 16 turns. With more, the compiler would vectorise over four turns
 // instead, with gathers, and lose a quarter of the speed.
+// Stays: the loops of the stages, stage5 to last_stage: their numbers are counted with, to say where a four begins.
 ghost use Rattle.std.specs.Prelude.{◌≡◌, ◌+◌, ◌*◌, ◌/◌, ◌%◌, ◌≤◌, ◌<◌, length};
 ghost use Rattle.fft.specs.Fast.{complex_at, turned_back, of_four, row2, row3, row4, row5, stage, transformed};
 ghost use Rattle.fft.specs.Single.{single, of};
@@ -13,6 +14,7 @@ use crate::puts::put_bins;
 
 // ---- five numbers, 96 apart
 
+#[tactic(auto, unfolding(crate::specs::Fast::row5))]
 fn lane5(c: &[f32; 960], z: &[f32; 960], i: usize) -> [Cx; 5]
     requires { i < 96 }
     ensures { result ≡ bins 5 (row5 single (of c.now) z.now i) }
@@ -199,6 +201,7 @@ fn last_stage(out: &mut [f32; 960], c: &[f32; 960], z: &[f32; 960])
 }
 
 // The transform of z is written to y. z is overwritten.
+#[tactic(auto, unfolding(crate::specs::Fast::transformed))]
 pub(crate) fn transform(y: &mut [f32; 960], z: &mut [f32; 960], c: &[f32; 960])
     ensures { y.new ≡ transformed single (of c.now) z.old }
 {
