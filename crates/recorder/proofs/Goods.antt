@@ -20,7 +20,7 @@ use Rattle.checksum.proofs.Apart as checksum
 use Rattle.sides.specs.Sides.{number_of, of_number}
 use Rattle.sides.specs.declared.Side.{Side}
 use Rattle.sides.specs.declared.Side.TheVariants.{Left, Right}
-use Rattle.sides.specs.declared.Meant.TheVariants.{Means, Nothing}
+use Rattle.std.specs.Prelude.{Some, None}
 use Rattle.sheet.specs.Sheet.{record_bytes, records_of, trailer_of}
 use Rattle.sheet.specs.End.{from_four, good_record, entry_of}
 use Rattle.sheet.proofs.Digits.{four_mod}
@@ -356,7 +356,7 @@ module _ (f : Front) (small : f.first < 2 ^ 32) where
 -- ---- the beginning
 
 module _ (began first : ℕ) (lent numbers : List ℕ) where
-  begun_of : (t u : Bool) → (0 leaving numbers) ≡ begun_on (cond t (Means Left) (cond u (Means Right) Nothing)) began
+  begun_of : (t u : Bool) → (0 leaving numbers) ≡ begun_on (cond t (Some Left) (cond u (Some Right) None)) began
       first lent
       → numbers ≡ recorder_numbers (beginning (record { side = cond t Left Right; began = began; first = first }))
   begun_of true u e = ap (λ (p : ℕ × List ℕ). p.1) e
