@@ -12,6 +12,22 @@ use model::Activation;
 
 const WEIGHTS_SCALE: f32 = 1.0 / 256.0;
 
+// The table of the activations.
+#[derive(Drop)]
+pub(crate) struct Table {
+    // Its places.
+    entries: [f32; 201],
+    ghost filled: { entries ≡ tansig },
+}
+
+impl Table {
+    pub(crate) fn new() -> Self {
+        Table {
+            entries: numbers::table::all(),
+        }
+    }
+}
+
 // Copies biases, as numbers.
 fn copy_weights(out: &mut [f32], bytes: &[u8])
     requires { length out.old ≡ length bytes.now }
@@ -32,14 +48,13 @@ fn scale(xs: &mut [f32])
 }
 
 // Applies the activation to each sum.
-fn activate(sums: &mut [f32], table: &[f32; 201], activation: Activation)
-    requires { table.now ≡ tansig }
+fn activate(sums: &mut [f32], table: &Table, activation: Activation)
     ensures { sums.new ≡ map (λ x. activated activation (weights_scale ⊗ x)) sums.old }
 {
     scale(sums);
     match activation {
-        Activation::Tanh => numbers::lists::tansigs(sums, table),
-        Activation::Sigmoid => numbers::lists::sigmoids(sums, table),
+        Activation::Tanh => numbers::lists::tansigs(sums, &table.entries),
+        Activation::Sigmoid => numbers::lists::sigmoids(sums, &table.entries),
         Activation::Relu => numbers::lists::relus(sums),
     }
 }
@@ -47,14 +62,13 @@ fn activate(sums: &mut [f32], table: &[f32; 201], activation: Activation)
 // A dense layer.
 pub(crate) fn dense(
     output: &mut [f32],
-    table: &[f32; 201],
+    table: &Table,
     weights: &[u8],
     bias: &[u8],
     activation: Activation,
     input: &[f32],
 )
-    requires { (table.now ≡ tansig) × DenseArrays (length output.old) (length weights.now) (length bias.now)
-        (length input.now) }
+    requires { DenseArrays (length output.old) (length weights.now) (length bias.now) (length input.now) }
     ensures { output.new
         ≡ dense_of weights.now bias.now activation input.now }
 {
@@ -65,12 +79,11 @@ pub(crate) fn dense(
 }
 
 // Turns sums into gates.
-fn update(gates: &mut [f32], table: &[f32; 201])
-    requires { table.now ≡ tansig }
+fn update(gates: &mut [f32], table: &Table)
     ensures { gates.new ≡ loop (length gates.old) update_step gates.old }
 {
     scale(gates);
-    numbers::lists::sigmoids(gates, table);
+    numbers::lists::sigmoids(gates, &table.entries);
 }
 
 // Multiplies each reset gate by the old state.
@@ -85,8 +98,8 @@ fn times(gates: &mut [f32], state: &[f32])
 }
 
 // Turns sums into reset gates, each multiplied by the old state.
-fn reset(r: &mut [f32], state: &[f32], table: &[f32; 201])
-    requires { (length r.old ≡ length state.now) × (table.now ≡ tansig) }
+fn reset(r: &mut [f32], state: &[f32], table: &Table)
+    requires { length r.old ≡ length state.now }
     ensures { r.new
         ≡ loop (length r.old) (reset_step state.now) r.old }
 {
@@ -107,9 +120,8 @@ fn mix(state: &mut [f32], z: &[f32], new: &[f32])
 }
 
 // The new state, from the update gates and the sums of the candidates; these become the candidates.
-fn blend(state: &mut [f32], z: &[f32], h: &mut [f32], activation: Activation, table: &[f32; 201])
-    requires { (length z.now ≡ length state.old) × (length h.old ≡ length state.old)
-        × (table.now ≡ tansig) }
+fn blend(state: &mut [f32], z: &[f32], h: &mut [f32], activation: Activation, table: &Table)
+    requires { (length z.now ≡ length state.old) × (length h.old ≡ length state.old) }
     ensures { state.new
         ≡ loop (length state.old) (blend_step activation z.now h.old)
         state.old }
@@ -148,7 +160,7 @@ pub(crate) fn gru(
     z: &mut [f32],
     r: &mut [f32],
     h: &mut [f32],
-    table: &[f32; 201],
+    table: &Table,
     weights: &[u8],
     recurrent: &[u8],
     bias: &[u8],
@@ -157,8 +169,7 @@ pub(crate) fn gru(
 )
     requires arrays { GruArrays (length state.old) (length weights.now) (length recurrent.now) (length bias.now)
         (length input.now) }
-    requires lent { (table.now ≡ tansig)
-        × ScratchFits (length state.old) (length z.old) (length r.old) (length h.old) }
+    requires lent { ScratchFits (length state.old) (length z.old) (length r.old) (length h.old) }
     ensures { state.new
         ≡ gru_of weights.now recurrent.now bias.now activation
         input.now state.old }
@@ -176,14 +187,14 @@ pub(crate) fn gru(
 // A GRU layer with places of its own for its gates.
 pub(crate) fn gru_alone(
     state: &mut [f32],
-    table: &[f32; 201],
+    table: &Table,
     weights: &[u8],
     recurrent: &[u8],
     bias: &[u8],
     activation: Activation,
     input: &[f32],
 )
-    requires { (table.now ≡ tansig) × (length state.old ≤ 128)
+    requires { (length state.old ≤ 128)
         × GruArrays (length state.old) (length weights.now) (length recurrent.now) (length bias.now)
         (length input.now) }
     ensures { state.new
