@@ -28,6 +28,19 @@ impl Table {
     }
 }
 
+// The arrays of a GRU layer, and its activation.
+#[derive(Clone, Copy)]
+pub(crate) struct Arrays<'a> {
+    // For each input, a weight for each gate of each neuron.
+    pub(crate) weights: &'a [u8],
+    // The same for each neuron's state.
+    pub(crate) recurrent: &'a [u8],
+    // A bias for each gate of each neuron.
+    pub(crate) bias: &'a [u8],
+    // What is applied to the sums of the candidates.
+    pub(crate) activation: Activation,
+}
+
 // Copies biases, as numbers.
 fn copy_weights(out: &mut [f32], bytes: &[u8])
     requires { length out.old ≡ length bytes.now }
@@ -131,27 +144,19 @@ fn blend(state: &mut [f32], z: &[f32], h: &mut [f32], activation: Activation, ta
 }
 
 // The sums of the gate at this offset: its bias, plus weights times input, plus recurrent weights times state.
-fn gate_sums(
-    out: &mut [f32],
-    weights: &[u8],
-    recurrent: &[u8],
-    bias: &[u8],
-    offset: usize,
-    input: &[f32],
-    state: &[f32],
-)
-    requires { GateFits (length out.old) (length weights.now) (length recurrent.now) (length bias.now) offset
-        (length input.now) (length state.now) }
+fn gate_sums(out: &mut [f32], layer: Arrays<'_>, offset: usize, input: &[f32], state: &[f32])
+    requires { GateFits (length out.old) (length layer.weights.now) (length layer.recurrent.now)
+        (length layer.bias.now) offset (length input.now) (length state.now) }
     ensures { out.new
-        ≡ gate_sums weights.now recurrent.now bias.now input.now
+        ≡ gate_sums layer.entry.weights.now layer.entry.recurrent.now layer.entry.bias.now input.now
         (length out.old) offset state.now }
 {
     let n = out.len();
     let stride = 3 * n;
     let end = offset + n;
-    copy_weights(out, &bias[offset..end]);
-    matrix::mul_add_at(weights, stride, offset, out, input).unwrap();
-    matrix::mul_add_at(recurrent, stride, offset, out, state).unwrap();
+    copy_weights(out, &layer.bias[offset..end]);
+    matrix::mul_add_at(layer.weights, stride, offset, out, input).unwrap();
+    matrix::mul_add_at(layer.recurrent, stride, offset, out, state).unwrap();
 }
 
 // A GRU layer with lent places for its gates.
@@ -161,45 +166,34 @@ pub(crate) fn gru(
     r: &mut [f32],
     h: &mut [f32],
     table: &Table,
-    weights: &[u8],
-    recurrent: &[u8],
-    bias: &[u8],
-    activation: Activation,
+    layer: Arrays<'_>,
     input: &[f32],
 )
-    requires arrays { GruArrays (length state.old) (length weights.now) (length recurrent.now) (length bias.now)
-        (length input.now) }
+    requires arrays { GruArrays (length state.old) (length layer.weights.now) (length layer.recurrent.now)
+        (length layer.bias.now) (length input.now) }
     requires lent { ScratchFits (length state.old) (length z.old) (length r.old) (length h.old) }
     ensures { state.new
-        ≡ gru_of weights.now recurrent.now bias.now activation
-        input.now state.old }
+        ≡ gru_of layer.entry.weights.now layer.entry.recurrent.now layer.entry.bias.now
+        layer.entry.activation input.now state.old }
 {
     let n = state.len();
     let last = 2 * n;
-    gate_sums(z, weights, recurrent, bias, 0, input, &state[..]);
+    gate_sums(z, layer, 0, input, &state[..]);
     update(z, table);
-    gate_sums(r, weights, recurrent, bias, n, input, &state[..]);
+    gate_sums(r, layer, n, input, &state[..]);
     reset(r, &state[..], table);
-    gate_sums(h, weights, recurrent, bias, last, input, &r[..]);
-    blend(state, &z[..], h, activation, table);
+    gate_sums(h, layer, last, input, &r[..]);
+    blend(state, &z[..], h, layer.activation, table);
 }
 
 // A GRU layer with places of its own for its gates.
-pub(crate) fn gru_alone(
-    state: &mut [f32],
-    table: &Table,
-    weights: &[u8],
-    recurrent: &[u8],
-    bias: &[u8],
-    activation: Activation,
-    input: &[f32],
-)
+pub(crate) fn gru_alone(state: &mut [f32], table: &Table, layer: Arrays<'_>, input: &[f32])
     requires { (length state.old ≤ 128)
-        × GruArrays (length state.old) (length weights.now) (length recurrent.now) (length bias.now)
-        (length input.now) }
+        × GruArrays (length state.old) (length layer.weights.now) (length layer.recurrent.now)
+        (length layer.bias.now) (length input.now) }
     ensures { state.new
-        ≡ gru_of weights.now recurrent.now bias.now activation
-        input.now state.old }
+        ≡ gru_of layer.entry.weights.now layer.entry.recurrent.now layer.entry.bias.now
+        layer.entry.activation input.now state.old }
 {
     let n = state.len();
     let mut z = [0.0f32; 128];
@@ -211,10 +205,7 @@ pub(crate) fn gru_alone(
         &mut r[0..n],
         &mut h[0..n],
         table,
-        weights,
-        recurrent,
-        bias,
-        activation,
+        layer,
         input,
     );
 }

@@ -72,7 +72,13 @@ pub fn gru(
         return Err(Refusal::WrongLength);
     }
     let table = layers::Table::new();
-    layers::gru_alone(state, &table, weights, recurrent, bias, activation, input);
+    let layer = layers::Arrays {
+        weights,
+        recurrent,
+        bias,
+        activation,
+    };
+    layers::gru_alone(state, &table, layer, input);
     Ok(())
 }
 

@@ -9,7 +9,7 @@ ghost use Rattle.network.specs.Compute.{dense_at, gru_at, layered_on, layers_in_
 ghost use Rattle.network.specs.Private.{state_at, LayerFits, VoiceFits, DenoiseFits};
 
 use crate::layers;
-use crate::layers::Table;
+use crate::layers::{Arrays, Table};
 use model::{Header, Kind, Model};
 
 // Stores src from this place on; what comes before it stays.
@@ -18,9 +18,8 @@ fn put(buf: &mut [f32], at: usize, src: &[f32])
     ensures { take (at + length src.now) buf.new
         ≡ take at buf.old ++ src.now }
 {
-    for i in 0..src.len() {
-        buf[at + i] = src[i];
-    }
+    let end = at + src.len();
+    buf[at..end].copy_from_slice(src);
 }
 
 // Stores three slices, one after the other, at the front of buf.
@@ -95,16 +94,13 @@ fn gru(states: &mut [f32], at: usize, table: &Table, bytes: &[u8], h: Header, in
     let b = bias.at;
     let b_end = b + bias.size;
     let last = at + h.neurons;
-    let activation = h.activation;
-    layers::gru_alone(
-        &mut states[at..last],
-        table,
-        &bytes[w..w_end],
-        &bytes[r..r_end],
-        &bytes[b..b_end],
-        activation,
-        input,
-    );
+    let layer = Arrays {
+        weights: &bytes[w..w_end],
+        recurrent: &bytes[r..r_end],
+        bias: &bytes[b..b_end],
+        activation: h.activation,
+    };
+    layers::gru_alone(&mut states[at..last], table, layer, input);
 }
 
 // input_dense, vad_gru and vad_output.

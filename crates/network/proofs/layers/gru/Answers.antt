@@ -1,7 +1,6 @@
 -- `network::layers::gru` meets its contract. Assumes nothing.
 use mathlib.Core.Path.{refl, ◌∙◌}
 use native.Mathlib.Omega.{arith}
-use borrow.Author.Rules.{rules}
 use Rattle.network.proofs.Joined.{gate_fits, gru_joined}
 use Rattle.network.proofs.layers.gru.Goals as goal
 

@@ -19,18 +19,18 @@ overflow_add-b_end c =
     let fit = c.requires.1 in
     omega (arith, ends_within fit.within (found 2 fit.within c.place_in-bias.ensures))
 
-pub slice_bounds-gru_alone-end-2 : goal.slice_bounds-gru_alone-end-2
-slice_bounds-gru_alone-end-2 c =
+pub slice_bounds-layer-end : goal.slice_bounds-layer-end
+slice_bounds-layer-end c =
     let fit = c.requires.1 in
     ends_within fit.within (found 0 fit.within c.place_in-weights.ensures)
 
-pub slice_bounds-gru_alone-end-3 : goal.slice_bounds-gru_alone-end-3
-slice_bounds-gru_alone-end-3 c =
+pub slice_bounds-layer-end-2 : goal.slice_bounds-layer-end-2
+slice_bounds-layer-end-2 c =
     let fit = c.requires.1 in
     ends_within fit.within (found 1 fit.within c.place_in-recurrent.ensures)
 
-pub slice_bounds-gru_alone-end-4 : goal.slice_bounds-gru_alone-end-4
-slice_bounds-gru_alone-end-4 c =
+pub slice_bounds-layer-end-3 : goal.slice_bounds-layer-end-3
+slice_bounds-layer-end-3 c =
     let fit = c.requires.1 in
     ends_within fit.within (found 2 fit.within c.place_in-bias.ensures)
 
