@@ -13,14 +13,18 @@ use Rattle.rules.specs.Refusals.{Row, refusing}
 use Rattle.rules.proofs.Refusals.{leaves, leave_both, clear, cleared, due, above}
 use Rattle.rules.specs.Refusal.{number_of, told}
 use Rattle.rules.specs.declared.refusal.Refusal.{Refusal}
-use Rattle.rules.specs.declared.refusal.Refusal.TheVariants.{NoSuchSide, OutOfRange, Closed, NotDue, WrongLength, LagTooLarge}
-use Rattle.rules.specs.declared.refusal.Refusal.TheVariants.{OtherCounts, BadSample, ModelNoHeader, ModelInputs, ModelNeurons, ModelActivation}
-use Rattle.rules.specs.declared.refusal.Refusal.TheVariants.{ModelNoNeurons, ModelArray, ModelBytesLeft, ModelEnds, ModelVadGru, ModelNoiseGru}
-use Rattle.rules.specs.declared.refusal.Refusal.TheVariants.{ModelDenoiseGru, ModelDenoiseOutput, ModelNoRoom, SheetShort, SheetDistance, SheetSide}
-use Rattle.rules.specs.declared.refusal.Refusal.TheVariants.{SheetRecord, SheetSum, SheetNoRoom, MendPlace, MendNothing, WavNoRiff}
-use Rattle.rules.specs.declared.refusal.Refusal.TheVariants.{WavEnds, WavNoFormat, WavShortFormat, WavFormat, WavChannels, WavBlock}
-use Rattle.rules.specs.declared.refusal.Refusal.TheVariants.{SealNone, SealChecksum, SealSide, RecordingHead, RecordingAudio, RecordingSeal}
-use Rattle.rules.specs.declared.refusal.Refusal.TheVariants.{RecordingRecords, RecordingTrailer, RecordingLonger, RecorderTooLong, RecorderRecords, RecorderSize}
+use Rattle.rules.specs.declared.refusal.Refusal.TheVariants.{NoSuchSide, OutOfRange, Closed, NotDue, WrongLength}
+use Rattle.rules.specs.declared.refusal.Refusal.TheVariants.{LagTooLarge, OtherCounts, BadSample, ModelNoHeader}
+use Rattle.rules.specs.declared.refusal.Refusal.TheVariants.{ModelInputs, ModelNeurons, ModelActivation, ModelNoNeurons}
+use Rattle.rules.specs.declared.refusal.Refusal.TheVariants.{ModelArray, ModelBytesLeft, ModelEnds, ModelVadGru}
+use Rattle.rules.specs.declared.refusal.Refusal.TheVariants.{ModelNoiseGru, ModelDenoiseGru, ModelDenoiseOutput}
+use Rattle.rules.specs.declared.refusal.Refusal.TheVariants.{ModelNoRoom, SheetShort, SheetDistance, SheetSide}
+use Rattle.rules.specs.declared.refusal.Refusal.TheVariants.{SheetRecord, SheetSum, SheetNoRoom, MendPlace, MendNothing}
+use Rattle.rules.specs.declared.refusal.Refusal.TheVariants.{WavNoRiff, WavEnds, WavNoFormat, WavShortFormat, WavFormat}
+use Rattle.rules.specs.declared.refusal.Refusal.TheVariants.{WavChannels, WavBlock, SealNone, SealChecksum, SealSide}
+use Rattle.rules.specs.declared.refusal.Refusal.TheVariants.{RecordingHead, RecordingAudio, RecordingSeal}
+use Rattle.rules.specs.declared.refusal.Refusal.TheVariants.{RecordingRecords, RecordingTrailer, RecordingLonger}
+use Rattle.rules.specs.declared.refusal.Refusal.TheVariants.{RecorderTooLong, RecorderRecords, RecorderSize}
 use Rattle.rules.specs.declared.refusal.Refusal.TheVariants.{RecorderFrames, RecorderNoCut}
 use Rattle.rules.proofs.Tests.{neither}
 use Rattle.recorder.specs.Recorder.{skip_of, room_of, belonging, start_of}

@@ -70,7 +70,8 @@ pub record IsGood (front : Front) (audio records file : List ℕ) : Type 0 where
   pub noted : records ≡ records_of (number_of front.side) (entries_from front.first (recording_of front audio records
       ).heard)
   pub told : verdict_of file
-      ≡ told_as front (length (recording_of front audio records).heard) (how_many (recording_of front audio records).heard)
+      ≡ told_as front (length (recording_of front audio records).heard)
+      (how_many (recording_of front audio records).heard)
 
 -- head, audio, what is between, records and trailer in a row are such a file: no calls that are accepted write another
 abbrev pub AlwaysGood : Type 0

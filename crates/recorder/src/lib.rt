@@ -1,6 +1,7 @@
 // A recording while it is being made. For each feed of a bench the recorder says which of its bytes belong to the
 // recording, and it carries on what the head, the seal and the trailer say at the end. A host holds it as eight
 // numbers.
+// Stays: a host's slices, whose lengths the calls test, and where the audio is as two numbers: the C interface.
 #![tactic(auto)]
 
 mod records;
@@ -9,7 +10,8 @@ ghost use Rattle.std.specs.Prelude.{◌≡◌, ◌%◌, ◌≤◌, ◌^◌, ◌<
 ghost use Rattle.rules.specs.Leaf.{◌leaving◌};
 ghost use Rattle.rules.specs.Refusal.{told};
 ghost use Rattle.rules.specs.Refusals.{refusing};
-ghost use Rattle.recorder.specs.Recorder.{beginning, skip_of, room_of, belonging, start_of, too_long, more_rows, closing_of};
+ghost use Rattle.recorder.specs.Recorder.{beginning, skip_of, room_of, belonging, start_of, too_long, more_rows};
+ghost use Rattle.recorder.specs.Recorder.{closing_of};
 ghost use Rattle.recorder.specs.Recorder.{close_rows, next_first, following, next_rows};
 ghost use Rattle.recorder.specs.Numbers.{recorder_in, recorder_numbers, begun_laid, more_laid, closing_laid, next_laid};
 ghost use Rattle.recorder.specs.Numbers.{finish_laid};
