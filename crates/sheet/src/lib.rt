@@ -43,6 +43,7 @@ fn number_at(file: &[u8], at: usize) -> usize
 }
 
 // Whether three bytes at a place are 0.
+// Stays: with `&&` in place of the tests in a row it was tried, and the proof didn't close. So it is in `is_good`.
 fn zeros_at(bytes: &[u8], at: usize) -> bool
     requires { at + 3 ≤ length bytes.now }
     ensures { result ≡ three_zeros (drop at bytes.now) }
@@ -185,6 +186,7 @@ pub fn entry(entry: &mut [u64], file: &[u8], index: u64) -> Result<(), Refusal>
 }
 
 // Whether every entry is silent or heard.
+// Stays: `iter().all(..)` was tried, and the proof didn't close.
 fn kinds_good(entries: &[u64]) -> bool
     ensures { result ≡ known_kinds entries.now }
 {
