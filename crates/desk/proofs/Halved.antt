@@ -26,7 +26,7 @@ use Rattle.halves.specs.Ways.{forward_by, inverse_by}
 use Rattle.halves.proofs.Joined.{asked_first, second_half_is}
 use Rattle.halves.proofs.Sister.{call2_own_by}
 use Rattle.pieces.specs.Pieces.{frame_part, in_part}
-use Rattle.desk.specs.declared.Answer.{Answer}
+use Rattle.desk.specs.Answer.{Answer}
 use Rattle.desk.specs.declared.Record.{Record}
 use Rattle.desk.specs.Gate.{idle, in_range, is_due, refusals, gate, share_of}
 use Rattle.desk.specs.Desk.{Ask, call1, call2_own, call3, call4, first_half, second_half, call_of, next_due, advanced}

@@ -33,7 +33,7 @@ use Rattle.pieces.proofs.Accepted.{piece_taken, resume_taken}
 use Rattle.pieces.proofs.Halved.{first_length}
 use Rattle.pieces.proofs.Padding.{padded_none}
 use Rattle.pieces.proofs.Shares.{length_padded, part_length, waiting_length, waits_length, waiting_back, frame_length}
-use Rattle.desk.specs.declared.Answer.{Answer}
+use Rattle.desk.specs.Answer.{Answer}
 use Rattle.desk.specs.declared.Record.{Record}
 use Rattle.desk.specs.Gate.{idle, under_way, in_pieces, in_range, is_due, gate, share_of}
 use Rattle.desk.specs.Desk.{Ask, opening, call1, call2, call2_own, call3, call4, first_half, second_half, piece}

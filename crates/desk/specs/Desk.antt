@@ -20,7 +20,7 @@ use Rattle.frame.specs.declared.Way.{Way}
 use Rattle.frame.specs.declared.Way.TheVariants.{Own}
 use Rattle.desk.specs.Gate.{PIECE, RESUME, gate, share_of}
 use Rattle.desk.specs.declared.Record.{Record}
-use Rattle.desk.specs.declared.Answer.{Answer}
+use Rattle.desk.specs.Answer.{Answer}
 
 -- A call with its arguments. Of an answer buffer only the length is an argument, not what it held.
 pub data Ask : Type 0 where

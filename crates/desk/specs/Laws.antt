@@ -22,7 +22,7 @@ use Rattle.pieces.specs.Pieces.{frame_part, waiting_in, padded_to}
 use Rattle.desk.specs.Gate.{share_of, in_range}
 use Rattle.desk.specs.Desk.{Ask, opening, call1, call2, call2_own, call3, call4, first_half, second_half, piece}
 use Rattle.desk.specs.Desk.{resume, call_of, closed, desk}
-use Rattle.desk.specs.declared.Answer.{Answer}
+use Rattle.desk.specs.Answer.{Answer}
 use Rattle.desk.specs.declared.Record.{Record}
 
 -- ---- one call

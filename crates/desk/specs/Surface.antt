@@ -14,7 +14,7 @@ use Rattle.desk.specs.Gate.{way_number}
 use Rattle.desk.specs.Desk.{Ask, opening, call1, call2, call2_own, call3, call4, first_half, second_half, piece}
 use Rattle.desk.specs.Desk.{resume, record_of, holding, no_hearing, desk}
 use Rattle.desk.specs.declared.Record.{Record}
-use Rattle.desk.specs.declared.Answer.{Answer}
+use Rattle.desk.specs.Answer.{Answer}
 
 -- A host keeps a record as twelve numbers. The last one says to which bench the record belongs.
 abbrev pub RECORD : ℕ

@@ -13,7 +13,7 @@ use Rattle.rules.specs.Place.{get, put}
 use Rattle.rules.proofs.Places.{length_put}
 use Rattle.frame.specs.Written.{Written, from, nothing, numbers_in, over, first_in}
 use Rattle.frame.proofs.Buffers.{over_none, over_next}
-use Rattle.desk.specs.declared.Answer.{Answer}
+use Rattle.desk.specs.Answer.{Answer}
 use Rattle.frame.specs.Effect.{Effect}
 use Rattle.frame.specs.Reply.{Reply}
 use Rattle.frame.specs.Reply.{Done}

@@ -13,7 +13,7 @@ use Rattle.rules.proofs.Places.{length_get, length_put}
 use Rattle.frame.proofs.Buffers.{over_none}
 use Rattle.rules.proofs.Tests.{both}
 use Rattle.samples.specs.Samples.{good}
-use Rattle.desk.specs.declared.Answer.{Answer}
+use Rattle.desk.specs.Answer.{Answer}
 use Rattle.frame.specs.Effect.{Effect}
 use Rattle.frame.specs.Reply.{Reply}
 use Rattle.frame.specs.Reply.{Done}

@@ -12,7 +12,7 @@ use Rattle.rules.proofs.Common.{length-append, Float}
 use borrow.Author.Tests.{lt-ltb, le-ltb}
 use Rattle.rules.specs.Place.{get, put}
 use Rattle.frame.specs.Written.{Written, all, from, nothing, first_in}
-use Rattle.desk.specs.declared.Answer.{Answer}
+use Rattle.desk.specs.Answer.{Answer}
 use Rattle.frame.specs.Effect.{Effect}
 use Rattle.frame.specs.Reply.{Reply}
 use Rattle.frame.specs.Reply.{Done}

@@ -18,7 +18,7 @@ use Rattle.frame.proofs.Buffers.{onto_more, to_none}
 use Rattle.frame.specs.Effect.{Effect, Worked}
 use Rattle.frame.specs.Reply.{passed}
 use Rattle.desk.specs.declared.Record.{Record}
-use Rattle.desk.specs.declared.Answer.{Answer}
+use Rattle.desk.specs.Answer.{Answer}
 use Rattle.desk.specs.Gate.{BENCHES, in_range}
 use Rattle.desk.specs.Surface.{RECORD, record_in, numbers_of, reply_number, heard_of, out_of, telling, handed}
 use Rattle.desk.proofs.Ranged.{bounded}

@@ -11,7 +11,7 @@ use Rattle.frame.specs.Effect.{Effect, Worked}
 use Rattle.frame.specs.Reply.{passed}
 use Rattle.frame.specs.Reply.{Reply}
 use Rattle.desk.specs.declared.Record.{Record}
-use Rattle.desk.specs.declared.Answer.{Answer}
+use Rattle.desk.specs.Answer.{Answer}
 use Rattle.desk.specs.Gate.{BENCHES}
 use Rattle.desk.specs.Desk.{Ask, desk}
 use Rattle.desk.specs.Surface.{record_in, numbers_of, reply_number, heard_of, told_besides, besides, out_of, hosted}

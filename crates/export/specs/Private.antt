@@ -2,7 +2,7 @@
 use Rattle.std.specs.Prelude.{◌<◌, ◌≡◌}
 use Rattle.rules.specs.Common.{ℕ, true, List, length}
 use Rattle.frame.specs.Reply.{passed}
-use Rattle.desk.specs.declared.Answer.{Answer}
+use Rattle.desk.specs.Answer.{Answer}
 use Rattle.desk.specs.Gate.{BENCHES}
 use Rattle.desk.specs.Surface.{RECORD}
 use Rattle.desk.proofs.Ranged.{Bounded}

@@ -24,7 +24,7 @@ use Rattle.model.specs.Model.{read_of}
 use Rattle.model.specs.declared.Model.{Model}
 use Rattle.model.specs.Reading.{Reading, Good, Refused as Unread}
 use Rattle.samples.specs.Samples.{good}
-use Rattle.desk.specs.declared.Answer.{Answer}
+use Rattle.desk.specs.Answer.{Answer}
 use Rattle.frame.specs.Effect.{Effect, refusal}
 use Rattle.frame.specs.Reply.{passed, is_heard, one_more}
 use Rattle.lag.specs.Lag.{own_lag}

@@ -43,7 +43,7 @@ use Rattle.desk.specs.declared.Record.{Record}
 use Rattle.desk.specs.Gate.{PIECE, RESUME, in_range, is_due, gate, share_of}
 use Rattle.desk.specs.Desk.{Ask, opening, call1, call2, call2_own, call3, call4, first_half, second_half, piece, resume}
 use Rattle.desk.specs.Desk.{call_of, opened, admitted, on_share, desk}
-use Rattle.desk.specs.declared.Answer.{Answer}
+use Rattle.desk.specs.Answer.{Answer}
 use Rattle.desk.specs.Laws.{placed}
 use Rattle.desk.proofs.Answered.{done_alike}
 use Rattle.desk.proofs.Ranged.{bounded}

@@ -9,7 +9,7 @@ use Rattle.frame.specs.Reply.{Refused}
 use Rattle.frame.specs.Effect.{Effect, refusal}
 use Rattle.frame.specs.Reply.{passed}
 use Rattle.pieces.specs.Pieces.{waiting_in, completes, piece_fits}
-use Rattle.desk.specs.declared.Answer.{Answer}
+use Rattle.desk.specs.Answer.{Answer}
 use Rattle.desk.specs.declared.Record.{Record}
 use Rattle.desk.specs.Gate.{PIECE, side_of, gate, share_of}
 use Rattle.desk.specs.Desk.{piece}

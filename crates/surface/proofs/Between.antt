@@ -17,7 +17,7 @@ use Rattle.rules.specs.Place.{get, put}
 use Rattle.frame.specs.Written.{Written, from, nothing, numbers_in, first_in}
 use Rattle.rules.proofs.Places.{length_get, get_whole, put_whole}
 use Rattle.rules.proofs.Tests.{both}
-use Rattle.desk.specs.declared.Answer.{Answer}
+use Rattle.desk.specs.Answer.{Answer}
 use Rattle.frame.specs.Effect.{Effect}
 use Rattle.frame.specs.Reply.{Reply}
 use Rattle.frame.specs.Reply.{Done}

@@ -17,7 +17,7 @@ use Rattle.frame.specs.Reply.{Reply}
 use Rattle.frame.specs.Reply.{Refused}
 use Rattle.frame.specs.Reply.{passed}
 use Rattle.pieces.specs.Pieces.{completes}
-use Rattle.desk.specs.declared.Answer.{Answer}
+use Rattle.desk.specs.Answer.{Answer}
 use Rattle.desk.specs.declared.Record.{Record}
 use Rattle.desk.specs.Gate.{BENCHES, PIECE, side_of, gate, share_of}
 use Rattle.desk.specs.Desk.{Ask, first_half, second_half, piece, resume, desk}

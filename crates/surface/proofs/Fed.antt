@@ -12,7 +12,7 @@ use Rattle.rules.specs.Place.{get, put}
 use Rattle.frame.specs.Written.{nothing, first_in, wholes_in}
 use Rattle.rules.proofs.Places.{length_get, get_put}
 use Rattle.rules.proofs.Refusals.{by_rows}
-use Rattle.desk.specs.declared.Answer.{Answer}
+use Rattle.desk.specs.Answer.{Answer}
 use Rattle.frame.specs.Effect.{Effect, refusal}
 use Rattle.frame.specs.Reply.{Reply}
 use Rattle.frame.specs.Reply.{Refused}

@@ -34,7 +34,7 @@ use Rattle.halves.specs.Halves as halves
 use Rattle.pieces.specs.Pieces.{frame_part, waiting_in, waits, frame_at}
 use Rattle.pieces.specs.Pieces as pieces
 use Rattle.pieces.proofs.Kept.{further_reply}
-use Rattle.desk.specs.declared.Answer.{Answer}
+use Rattle.desk.specs.Answer.{Answer}
 use Rattle.desk.specs.declared.Record.{Record}
 use Rattle.desk.specs.Gate.{PIECE, side_of, refusals, gate, share_of}
 use Rattle.desk.specs.Desk.{Ask, opening, call1, call2, call2_own, call3, call4, first_half, second_half, piece, resume}

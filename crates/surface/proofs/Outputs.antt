@@ -15,7 +15,7 @@ use Rattle.rules.specs.Place.{get}
 use Rattle.rules.proofs.Refusals as by-gates
 use Rattle.frame.specs.Written.{Written, all, from, nothing, numbers_in, first_in}
 use Rattle.logs.specs.Log10.{logs_of}
-use Rattle.desk.specs.declared.Answer.{Answer}
+use Rattle.desk.specs.Answer.{Answer}
 use Rattle.frame.specs.Effect.{Effect, refusal}
 use Rattle.frame.specs.Reply.{Reply}
 use Rattle.frame.specs.Reply.{Done, Silent, Heard, Numbered, Refused, Misread}

@@ -10,7 +10,7 @@ use borrow.Author.Tests.{ne_eqb, lt-ltb, eqb-true, eqb-false}
 use Rattle.frame.specs.Effect.{Effect, refusal}
 use Rattle.frame.specs.Reply.{passed}
 use Rattle.frame.specs.Share.{SHARE}
-use Rattle.desk.specs.declared.Answer.{Answer}
+use Rattle.desk.specs.Answer.{Answer}
 use Rattle.desk.specs.declared.Record.{Record}
 use Rattle.desk.specs.Gate.{in_range, gate}
 use Rattle.desk.specs.Desk.{Ask, opening, record_of, no_hearing, desk}

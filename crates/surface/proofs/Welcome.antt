@@ -35,7 +35,7 @@ use Rattle.pieces.specs.Pieces.{frame_part, waiting_in, waits, completes, piece_
 use Rattle.pieces.proofs.Accepted.{Piece, Resume, piece_taken, resume_taken}
 use Rattle.pieces.proofs.Cases.{piece_by, resume_by}
 use Rattle.pieces.proofs.Shares.{part_length, waiting_length, waits_length, waiting_back, frame_length}
-use Rattle.desk.specs.declared.Answer.{Answer}
+use Rattle.desk.specs.Answer.{Answer}
 use Rattle.desk.specs.declared.Record.{Record}
 use Rattle.desk.specs.Gate.{PIECE, idle, under_way, in_pieces, in_range, is_due, gate, share_of}
 use Rattle.desk.specs.Desk.{Ask, opening, call1, call2, call2_own, call3, call4, first_half, second_half, piece, resume}

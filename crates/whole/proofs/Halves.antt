@@ -10,7 +10,7 @@ use Rattle.frame.specs.Written.{first_in}
 use Rattle.rules.proofs.Places.{length_get, length_put, get_put, put_put}
 use Rattle.rules.proofs.Tests.{both}
 use Rattle.logs.specs.Log10.{logs_of}
-use Rattle.desk.specs.declared.Answer.{Answer}
+use Rattle.desk.specs.Answer.{Answer}
 use Rattle.frame.specs.Effect.{Effect, refusal}
 use Rattle.frame.specs.Reply.{Reply}
 use Rattle.frame.specs.Reply.{Done}

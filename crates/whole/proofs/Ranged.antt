@@ -18,7 +18,7 @@ use Rattle.samples.specs.Samples.{good}
 use Rattle.logs.specs.Log10.{logs_of}
 use Rattle.model.specs.Model.{read_of}
 use Rattle.model.proofs.Bounds.{refused_in}
-use Rattle.desk.specs.declared.Answer.{Answer}
+use Rattle.desk.specs.Answer.{Answer}
 use Rattle.frame.specs.Effect.{Effect, refusal}
 use Rattle.frame.specs.Reply.{Reply}
 use Rattle.frame.specs.Reply.{passed, ◌refusedIf◌}

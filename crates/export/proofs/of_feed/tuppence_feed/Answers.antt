@@ -3,7 +3,7 @@ use Rattle.std.specs.Prelude.{◌∷◌, ◌≡◌}
 use Rattle.rules.proofs.Common.{ℕ, cond, List, [], ap₂, length, Float}
 use Rattle.frame.specs.Effect.{WorkedBoth}
 use Rattle.frame.specs.Reply.{passed}
-use Rattle.desk.specs.declared.Answer.{Answer}
+use Rattle.desk.specs.Answer.{Answer}
 use Rattle.desk.specs.declared.Record.{Record}
 use Rattle.desk.specs.Gate.{BENCHES}
 use Rattle.desk.specs.Surface.{record_in, numbers_of, reply_number}
