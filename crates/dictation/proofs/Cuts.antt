@@ -15,9 +15,7 @@ use Rattle.frame.specs.Written.{Written, from, nothing, numbers_in, over, first_
 use Rattle.frame.proofs.Buffers.{over_none, over_next}
 use Rattle.desk.specs.Answer.{Answer}
 use Rattle.frame.specs.Effect.{Effect}
-use Rattle.frame.specs.Reply.{Reply}
-use Rattle.frame.specs.Reply.{Done}
-use Rattle.frame.specs.Reply.{passed}
+use Rattle.frame.specs.Reply.{Reply, Done, passed}
 use Rattle.frame.specs.Share.{SHARE}
 use Rattle.pieces.specs.Pieces.{waiting_in, waits, completes}
 use Rattle.pieces.proofs.Accepted.{Piece}

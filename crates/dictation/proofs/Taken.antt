@@ -14,9 +14,7 @@ use Rattle.rules.specs.Place.{get, put}
 use Rattle.frame.specs.Written.{Written, all, from, nothing, first_in}
 use Rattle.desk.specs.Answer.{Answer}
 use Rattle.frame.specs.Effect.{Effect}
-use Rattle.frame.specs.Reply.{Reply}
-use Rattle.frame.specs.Reply.{Done}
-use Rattle.frame.specs.Reply.{passed}
+use Rattle.frame.specs.Reply.{Reply, Done, passed}
 use Rattle.halves.specs.Halves.{first_half, second_half}
 use Rattle.pieces.specs.Pieces.{frame_part, waiting_in, waits, frame_at, further}
 use Rattle.pieces.specs.Pieces as pieces

@@ -11,7 +11,7 @@ ghost use Rattle.pitch.specs.Autocorr.{celt_autocorr, AutocorrFits};
 ghost use Rattle.pitch.specs.Downsample.{downsampled, DownsampleFits};
 ghost use Rattle.export.specs.OfPitch.{SumFits, PitchesFit};
 
-use rules::told;
+use rules::{Refusal, told};
 
 // The sum of n products. `sum` has one place, for it. `xs` and `ys` have n numbers or more.
 #[unsafe(no_mangle)]
@@ -22,15 +22,15 @@ pub extern "C" fn tuppence_inner_prod(sum: &mut [f32], xs: &[f32], ys: &[f32], n
         (5 leaving sum.old) }
 {
     if sum.len() != 1 {
-        return 5;
+        return Refusal::WrongLength.number();
     }
-    let product = pitch_search::inner_prod(xs, ys, n);
-    let number = product.number();
-    if number != 0 {
-        return number;
+    match pitch_search::inner_prod(xs, ys, n) {
+        Ok(product) => {
+            sum.copy_from_slice(&[product]);
+            0
+        }
+        Err(refusal) => refusal.number(),
     }
-    sum[0] = product.sum();
-    0
 }
 
 // Linear prediction. `ac` has at least one number more than `lpc`.
@@ -73,16 +73,15 @@ pub extern "C" fn tuppence_find_best_pitch(
         (5 leaving pitches.old) }
 {
     if pitches.len() != 2 {
-        return 5;
+        return Refusal::WrongLength.number();
     }
-    let found = pitch_search::find_best_pitch(xcorr, ys, len);
-    let number = found.number();
-    if number != 0 {
-        return number;
+    match pitch_search::find_best_pitch(xcorr, ys, len) {
+        Ok(found) => {
+            pitches.copy_from_slice(&[found.first as u64, found.second as u64]);
+            0
+        }
+        Err(refusal) => refusal.number(),
     }
-    pitches[0] = found.first() as u64;
-    pitches[1] = found.second() as u64;
-    0
 }
 
 // A filter of five taps, in place. `xs` has any length, `num` has five numbers.

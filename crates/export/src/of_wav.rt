@@ -7,8 +7,8 @@ ghost use Rattle.wav.specs.Head.{head_written};
 ghost use Rattle.wav.specs.Seal.{seal_summary, seal_written};
 ghost use Rattle.wav.specs.declared.seal.Word.TheVariants.{Begins, Ends};
 
-use wav::seal::Word;
 use rules::told;
+use wav::seal::Word;
 
 // The CRC-32 of the bytes so far, followed by these `bytes`. `before` is the checksum of the bytes so far, 0 at
 // first.
@@ -71,5 +71,5 @@ pub extern "C" fn tuppence_wav_head(out: &mut [u8], rate: u32, size: u32, behind
 pub extern "C" fn tuppence_wav_read(numbers: &mut [u64], file: &[u8]) -> u32
     ensures { (result leaving numbers.new) ≡ step_told file.now numbers.old }
 {
-    told(wav::chunks::read(numbers, file))
+    wav::chunks::told(wav::chunks::read(numbers, file))
 }

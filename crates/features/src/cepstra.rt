@@ -25,6 +25,7 @@ fn follow_logs(ly: &mut [f32; 22], logs: &[f32; 22])
 }
 
 // The cepstrum of these logarithms.
+#[tactic(auto, using(rules::proofs::Refusals::left), unfolding(crate::specs::Cepstra::cepstrum))]
 pub(crate) fn cepstrum_of(logs: &[f32; 22]) -> [f32; 22]
     ensures { result ≡ cepstrum logs.now }
 {
@@ -46,6 +47,7 @@ pub(crate) struct Row {
 
 impl Row {
     // The row k rows before this one; before row 0 comes row 7.
+    #[tactic(auto, unfolding(crate::specs::Cepstra::back))]
     fn back(self, k: usize) -> Row
         requires { (k ≤ 8) × (1 ≤ k) }
         ensures { result.index ≡ back self.index k }
@@ -114,6 +116,7 @@ fn delta_rows(out: &mut [f32], kind: Delta, mem: &[f32; 176], c0: Row, c1: Row, 
 }
 
 // The squared distance of two rows.
+#[tactic(auto, using(rules::proofs::Loops::turns), unfolding(crate::specs::Cepstra::cepstral_distance))]
 fn row_distance(mem: &[f32; 176], i: Row, j: Row) -> f32
     ensures { result ≡ cepstral_distance mem.now i.index j.index }
 {
@@ -138,6 +141,7 @@ fn nearer(mem: &[f32; 176], i: Row, j: Row, least: f32) -> f32
 }
 
 // The smallest distance of row i from another row.
+#[tactic(auto, using(rules::proofs::Loops::turns), unfolding(crate::specs::Cepstra::nearest))]
 fn nearest_row(mem: &[f32; 176], i: Row) -> f32
     ensures { result ≡ nearest mem.now i.index }
 {
@@ -149,6 +153,7 @@ fn nearest_row(mem: &[f32; 176], i: Row) -> f32
 }
 
 // How far apart the rows of the memory are.
+#[tactic(auto, using(rules::proofs::Loops::turns), unfolding(crate::specs::Cepstra::variability))]
 fn spectral_variability(mem: &[f32; 176]) -> f32
     ensures { result ≡ variability mem.now }
 {

@@ -14,6 +14,7 @@ fn normalise(exp: &mut [f32; 22], ex: &[f32; 22], ep: &[f32; 22])
 }
 
 // The normalised correlation of x and p in each band.
+#[tactic(auto, using(rules::proofs::Refusals::left), unfolding(crate::specs::Features::normalised_corr))]
 pub(crate) fn correlate(
     exp: &mut [f32; 22],
     x: &[f32; 961],
@@ -28,6 +29,7 @@ pub(crate) fn correlate(
 }
 
 // The seven features that come from the pitch.
+#[tactic(auto, using(rules::proofs::Refusals::left), unfolding(crate::specs::Features::pitch_features))]
 fn pitch_features(exp: &[f32; 22], lag: f32) -> [f32; 7]
     ensures { result ≡ pitch_features exp.now lag }
 {

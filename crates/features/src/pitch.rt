@@ -4,6 +4,7 @@ ghost use Rattle.features.specs.Pitch.{strength, ratio, band_pitch_gain, pitch_g
 ghost use Rattle.features.specs.Pitch.{restored, pitch_filtered};
 
 // How much of a band is pitch, by its correlation and its gain.
+#[tactic(auto, unfolding(crate::specs::Pitch::strength))]
 fn strength_of(exp: f32, gain: f32) -> f32
     ensures { result ≡ strength gain exp }
 {
@@ -16,6 +17,7 @@ fn strength_of(exp: f32, gain: f32) -> f32
 }
 
 // The root of the ratio of two energies.
+#[tactic(auto, unfolding(crate::specs::Pitch::ratio))]
 fn energy_ratio(ex: f32, e: f32) -> f32
     ensures { result ≡ ratio ex e }
 {
@@ -23,6 +25,7 @@ fn energy_ratio(ex: f32, e: f32) -> f32
 }
 
 // How much of the lagged signal is added in a band.
+#[tactic(auto, unfolding(crate::specs::Pitch::band_pitch_gain))]
 fn gain_of(exp: f32, gain: f32, ex: f32, ep: f32) -> f32
     ensures { result ≡ band_pitch_gain gain exp ex ep }
 {
@@ -51,12 +54,14 @@ fn renormalise(e: &mut [f32; 22], ex: &[f32; 22])
 fn add_pitch(x: &mut [f32; 961], p: &[f32; 961], rf: &[f32; 481])
     ensures { x.new ≡ pitch_added x.old p.now rf.now }
 {
-    for (n, bin) in x.iter_mut().enumerate() {
-        *bin = *bin + p[n] * rf[(n + 1) / 2];
+    // Stays: a loop like that of `scale_bins`, where `iter_mut().enumerate()` was slower.
+    for n in 0..961 {
+        x[n] = x[n] + p[n] * rf[(n + 1) / 2];
     }
 }
 
 // Brings the energies of the bands of x back to ex. `r` has a place for each band, and `rf` for each bin.
+#[tactic(auto, using(rules::proofs::Refusals::left), unfolding(crate::specs::Pitch::restored))]
 fn restore(x: &mut [f32; 961], ex: &[f32; 22], r: &mut [f32; 22], rf: &mut [f32; 481])
     ensures { x.new ≡ restored x.old ex.now }
 {
@@ -68,6 +73,7 @@ fn restore(x: &mut [f32; 961], ex: &[f32; 22], r: &mut [f32; 22], rf: &mut [f32;
 }
 
 // `pitch_filter` for lengths that fit.
+#[tactic(auto, using(rules::proofs::Refusals::left), unfolding(crate::specs::Pitch::pitch_filtered))]
 pub(crate) fn filter(
     x: &mut [f32; 961],
     p: &[f32; 961],

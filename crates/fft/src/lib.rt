@@ -19,8 +19,8 @@ mod puts;
 mod stages;
 
 // `forward` for lengths that fit.
-fn forward_core(out: &mut [f32], x: &[f32])
-    requires { ForwardFits (length out.old) (length x.now) }
+#[tactic(auto, unfolding(crate::specs::Single::fast_forward, crate::specs::Fast::forward_over))]
+fn forward_core(out: &mut [f32; 961], x: &[f32; 960])
     ensures { out.new ≡ fast_forward x.now }
 {
     let cosine = transforms::cosine::all();
@@ -38,16 +38,16 @@ pub fn forward(out: &mut [f32], x: &[f32]) -> Result<(), Refusal>
         (Ok tt leaving fast_forward x.now)
         (Err WrongLength leaving out.old) }
 {
-    if out.len() != 961 || x.len() != 960 {
+    let (Some(out), Some(x)) = (out.as_mut_array::<961>(), x.as_array::<960>()) else {
         return Err(Refusal::WrongLength);
-    }
+    };
     forward_core(out, x);
     Ok(())
 }
 
 // `inverse` for lengths that fit.
-fn inverse_core(out: &mut [f32], x: &[f32])
-    requires { InverseFits (length out.old) (length x.now) }
+#[tactic(auto, unfolding(crate::specs::Single::fast_inverse, crate::specs::Fast::inverse_over))]
+fn inverse_core(out: &mut [f32; 960], x: &[f32; 961])
     ensures { out.new ≡ fast_inverse x.now }
 {
     let cosine = transforms::cosine::all();
@@ -65,9 +65,9 @@ pub fn inverse(out: &mut [f32], x: &[f32]) -> Result<(), Refusal>
         (Ok tt leaving fast_inverse x.now)
         (Err WrongLength leaving out.old) }
 {
-    if out.len() != 960 || x.len() != 961 {
+    let (Some(out), Some(x)) = (out.as_mut_array::<960>(), x.as_array::<961>()) else {
         return Err(Refusal::WrongLength);
-    }
+    };
     inverse_core(out, x);
     Ok(())
 }

@@ -155,6 +155,8 @@ fn consider(
 }
 
 // The best of the period found and its parts, down to 30.
+//
+// Stays: the loop counts the parts of the period, which are numbers of the rule, so an iterator is no plainer.
 fn try_shorter(x: &[f32; 864], lookup: &[f32; 385], a: Asked, start: Chosen) -> Chosen
     requires { a.t0 ≤ 383 }
     ensures { result ≡ shorter x.now lookup.now a start }

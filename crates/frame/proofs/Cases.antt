@@ -11,12 +11,10 @@ use Rattle.model.specs.declared.Model.{Model}
 use Rattle.model.specs.Reading.{Reading, Good, Refused as Unread}
 use Rattle.features.specs.Silence.{energy, is_silent}
 use Rattle.frame.specs.declared.Hearing.{Hearing}
-use Rattle.frame.specs.Reply.{Refused, Misread}
+use Rattle.frame.specs.Reply.{Refused, Misread, Reply, passed, ◌refusedIf◌}
 use Rattle.frame.specs.Share.{PART, kept_ex}
 use Rattle.frame.specs.Heard.{spoken}
-use Rattle.frame.specs.Reply.{Reply}
 use Rattle.frame.specs.Effect.{Effect, refusal, unless}
-use Rattle.frame.specs.Reply.{passed, ◌refusedIf◌}
 use Rattle.frame.specs.Frame.{wrong, done1, call1, done2, call2, silent, heard, done3, counted, modelled, call3}
 use Rattle.frame.specs.Frame.{done4, call4}
 use Rattle.frame.proofs.Tables.{Clear, Each, not_when, by_number, by_rows}

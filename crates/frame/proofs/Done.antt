@@ -8,9 +8,7 @@ use Rattle.model.specs.Model.{read_of}
 use Rattle.model.specs.declared.Model.{Model}
 use Rattle.model.specs.Reading.{Reading, Good, Refused as Unread}
 use Rattle.frame.specs.declared.Hearing.{Hearing}
-use Rattle.frame.specs.Reply.{Reply}
-use Rattle.frame.specs.Reply.{Done, Refused}
-use Rattle.frame.specs.Reply.{passed}
+use Rattle.frame.specs.Reply.{Reply, Done, Refused, passed}
 use Rattle.frame.specs.Share.{PART}
 use Rattle.frame.specs.Effect.{Effect, Worked, refusal}
 use Rattle.frame.specs.Frame.{done1, call1, done2, call2, counted, modelled, done3, call3, done4, call4, checked}

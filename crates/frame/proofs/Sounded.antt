@@ -1,5 +1,5 @@
 -- A frame is silent or heard, as its sound says. Assumes nothing.
-use Rattle.std.specs.Prelude.{Option, Some, None, ◌∷◌, ◌≡◌}
+use Rattle.std.specs.Prelude.{Some, None, ◌∷◌, ◌≡◌}
 use Rattle.rules.proofs.Common.{ℕ, Bool, true, false, cond, List, [], refl, ap}
 use Rattle.rules.proofs.Common.{Float}
 use Rattle.rules.specs.Place.{get}

@@ -78,20 +78,14 @@ fn compute_rnn(share: &mut [f32], gains: &mut [f32], model: &[u8], features: &[f
     voice[0]
 }
 
-fn apply_in(out: &mut [f32], gf: &mut [f32], gains: &[f32])
-    requires { (length out.old ≡ 961) × (length gf.old ≡ 481) × (length gains.now ≡ 22) }
-    ensures { out.new ≡ applied out.old (band_gain gains.now) }
-{
-    bands::interp_band_gain(gf, gains).unwrap();
-    features::apply_gains(out, gf).unwrap();
-}
-
+#[tactic(auto, using(rules::proofs::Refusals::left))]
 fn apply(out: &mut [f32], gains: &[f32])
     requires { (length out.old ≡ 961) × (length gains.now ≡ 22) }
     ensures { out.new ≡ applied out.old (band_gain gains.now) }
 {
     let mut gf = [0.0f32; 481];
-    apply_in(out, &mut gf, gains);
+    bands::interp_band_gain(&mut gf, gains).unwrap();
+    features::apply_gains(out, &gf).unwrap();
 }
 
 // Raises the gains to 0.6 of the last ones, remembers them, and applies them.
@@ -107,6 +101,7 @@ fn apply_gain(share: &mut [f32], out: &mut [f32], gains: &mut [f32])
 }
 
 // The pitch filter, with the network's own gains; then the gains are raised, remembered and applied.
+#[tactic(auto, using(rules::proofs::Refusals::left))]
 fn filter_and_apply_gain(
     share: &mut [f32],
     out: &mut [f32],
@@ -128,34 +123,6 @@ fn filter_and_apply_gain(
 {
     features::pitch_filter(out, p, gains, exp, ex, ep).unwrap();
     apply_gain(share, out, gains);
-}
-
-fn process_heard_in(
-    share: &mut [f32],
-    out: &mut [f32],
-    features: &mut [f32],
-    exp: &mut [f32],
-    gains: &mut [f32],
-    index: usize,
-    p: &[f32],
-    ex: &[f32],
-    ep: &[f32],
-    logs: &[f32],
-    model: &[u8],
-) -> f32
-    requires sizes { (length share.old ≡ 3778) × (length features.old ≡ 42) × (length exp.old ≡ 22)
-        × (length gains.old ≡ 22) × (index ≤ 7) }
-    requires lent_sizes { (length p.now ≡ 961) × (length ep.now ≡ 22) × (length logs.now ≡ 22) }
-    requires as_kept { (out.old ≡ get kept_x share.old) × (ex.now ≡ get kept_ex share.old) }
-    requires reads { IsModel (read_of model.now) }
-    ensures { Reads model.now (λ m. spoken_as share.new result out.new
-        ≡ spoken_from share.old index p.now ep.now logs.now
-        model.now m) }
-{
-    compute_features(share, features, exp, index, out, p, ex, ep, logs);
-    let voice = compute_rnn(share, gains, model, features);
-    filter_and_apply_gain(share, out, gains, p, exp, ex, ep);
-    voice
 }
 
 // A heard frame, from p and its energies on. `out` holds x and becomes the spectrum to be transformed back.
@@ -181,42 +148,10 @@ fn process_heard(
     let mut features = [0.0f32; 42];
     let mut exp = [0.0f32; 22];
     let mut gains = [0.0f32; 22];
-    process_heard_in(
-        share,
-        out,
-        &mut features,
-        &mut exp,
-        &mut gains,
-        index,
-        p,
-        ex,
-        ep,
-        logs,
-        model,
-    )
-}
-
-fn hear_in(
-    share: &mut [f32],
-    out: &mut [f32],
-    p: &mut [f32],
-    ex: &mut [f32],
-    ep: &mut [f32],
-    index: usize,
-    spectrum: &[f32],
-    logs: &[f32],
-    model: &[u8],
-) -> f32
-    requires sizes { (length share.old ≡ 3778) × (out.old ≡ get kept_x share.old) × (index ≤ 7)
-        × (length spectrum.now ≡ 961) × (length logs.now ≡ 22) }
-    requires lent_sizes { (length p.old ≡ 961) × (length ex.old ≡ 22) × (length ep.old ≡ 22) }
-    requires reads { IsModel (read_of model.now) }
-    ensures { Reads model.now (λ m. spoken_as share.new result out.new
-        ≡ spoken share.old index spectrum.now logs.now model.now m) }
-{
-    rules::copy(ex, &share[3169..3191]).unwrap();
-    crate::lagged::transform(p, ep, spectrum);
-    process_heard(share, out, index, p, ex, ep, logs, model)
+    compute_features(share, &mut features, &mut exp, index, out, p, ex, ep, logs);
+    let voice = compute_rnn(share, &mut gains, model, &features);
+    filter_and_apply_gain(share, out, &mut gains, p, &exp, ex, ep);
+    voice
 }
 
 // A heard frame. `out` holds x and becomes the spectrum to be transformed back. Returns the voice.
@@ -237,9 +172,9 @@ fn hear(
     let mut p = [0.0f32; 961];
     let mut ex = [0.0f32; 22];
     let mut ep = [0.0f32; 22];
-    hear_in(
-        share, out, &mut p, &mut ex, &mut ep, index, spectrum, logs, model,
-    )
+    rules::copy(&mut ex, &share[3169..3191]).unwrap();
+    crate::lagged::transform(&mut p, &mut ep, spectrum);
+    process_heard(share, out, index, &p, &ex, &ep, logs, model)
 }
 
 // Call 3 after its refusals: the frame is silent or heard, and the spectrum is written.

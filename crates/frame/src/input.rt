@@ -14,9 +14,7 @@ fn shift(mem: &mut [f32])
     requires { length mem.old ≡ 1728 }
     ensures { take 1248 mem.new ≡ tab 1248 (λ i. at mem.old (i + 480)) }
 {
-    for i in 0..1248 {
-        mem[i] = mem[i + 480];
-    }
+    mem.copy_within(480..1728, 0);
 }
 
 // Takes 480 samples into the input memory, filtered, and writes its last 960 numbers, windowed. Returns the

@@ -15,12 +15,13 @@ fn scale(out: &mut [f32], spectrum: &[f32])
     ensures { out.new ≡ scaled spectrum.now }
 {
     let norm = bands::wnorm();
-    for i in 0..961 {
-        out[i] = spectrum[i] * norm;
+    for (i, bin) in out.iter_mut().enumerate() {
+        *bin = spectrum[i] * norm;
     }
 }
 
 // p becomes the scaled spectrum, and ep its band energies.
+#[tactic(auto, using(rules::proofs::Refusals::left), unfolding(crate::specs::Heard::energies))]
 pub(crate) fn transform(p: &mut [f32], ep: &mut [f32], spectrum: &[f32])
     requires { (length p.old ≡ 961) × (length ep.old ≡ 22) × (length spectrum.now ≡ 961) }
     ensures p_after { p.new ≡ scaled spectrum.now }
@@ -35,12 +36,13 @@ fn lift(ex: &mut [f32])
     requires { length ex.old ≡ 22 }
     ensures { ex.new ≡ plus_hundredth ex.old }
 {
-    for i in 0..22 {
-        ex[i] = 0.01 + ex[i];
+    for energy in ex.iter_mut() {
+        *energy = 0.01 + *energy;
     }
 }
 
 // Stores the scaled spectrum in the share, and its band energies in ex.
+#[tactic(auto, unfolding(rules::specs::Place::put))]
 fn analyse(share: &mut [f32], spectrum: &[f32], ex: &mut [f32])
     requires { (length share.old ≡ 3778) × (length spectrum.now ≡ 961) × (length ex.old ≡ 22) }
     ensures share_after { share.new ≡ put kept_x share.old (scaled spectrum.now) }
@@ -60,6 +62,7 @@ fn keep(share: &mut [f32], ex: &[f32], lag: Lag)
 }
 
 // What call 2 does after its window is written.
+#[tactic(auto, unfolding(crate::specs::Frame::put_kept))]
 pub(crate) fn note(share: &mut [f32], spectrum: &[f32], lag: Lag, sums: &mut [f32])
     requires { (length share.old ≡ 3778) × (length spectrum.now ≡ 961) × (length sums.old ≡ 22)
         × (lag.0 ≤ 768) }

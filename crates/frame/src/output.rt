@@ -11,8 +11,8 @@ fn overlap(kept: &mut [f32], table: &[f32; 960], inverse: &[f32], out: &mut [f32
     ensures kept_after { kept.new ≡ later_half (window_buf inverse.now) }
     ensures out_after { out.new ≡ overlapped (window_buf inverse.now) kept.old }
 {
-    for i in 0..480 {
-        out[i] = inverse[i] / 2.0 * table[i] + kept[i];
+    for (i, sample) in out.iter_mut().enumerate() {
+        *sample = inverse[i] / 2.0 * table[i] + kept[i];
         kept[i] = inverse[480 + i] / 2.0 * table[480 + i];
     }
 }

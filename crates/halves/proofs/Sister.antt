@@ -14,10 +14,8 @@ use Rattle.lag.specs.Lag.{own_lag}
 use Rattle.lag.proofs.Ranges.{in_range_lem}
 use Rattle.frame.specs.Share.{PART, input_mem}
 use Rattle.frame.specs.Effect.{Effect, Worked, refusal, unless}
-use Rattle.frame.specs.Reply.{◌refusedIf◌}
+use Rattle.frame.specs.Reply.{◌refusedIf◌, Reply, Refused}
 use Rattle.frame.specs.Frame.{wrong, done2, call2}
-use Rattle.frame.specs.Reply.{Reply}
-use Rattle.frame.specs.Reply.{Refused}
 use Rattle.frame.proofs.Cases.{call2_by}
 use Rattle.frame.proofs.Keeps.{Keeps, call2_keeps}
 use Rattle.halves.specs.Laws.{SisterByFive}

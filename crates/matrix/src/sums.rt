@@ -33,6 +33,7 @@ fn add_two(out: &mut [f32], first: &[u8], x: f32, second: &[u8], y: f32)
 }
 
 // `mul_add` column by column, for lengths that fit.
+// Stays: two columns a turn, and their places reckoned from the turn's number; chunks of the input would still need it.
 fn columns(out: &mut [f32], weights: &[u8], stride: usize, offset: usize, input: &[f32])
     requires { MulAddFits (length out.old) (length weights.now) stride offset (length input.now) }
     ensures { out.new

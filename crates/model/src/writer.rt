@@ -13,18 +13,12 @@ ghost use Rattle.model.specs.Private.{fault_in, Few, counts_there, header_bytes,
 use crate::{Counts, Kind, Misread};
 use rules::Refusal;
 
-fn wide(x: u32) -> usize
-    ensures { result ≡ x }
-{
-    x as usize
-}
-
 // Refusals 12 to 16 of a layer whose arrays have these lengths.
 fn layer_fault(
     kind: Kind,
     inputs: usize,
     neurons: usize,
-    number: usize,
+    number: u32,
     weights: usize,
     recurrent: usize,
     bias: usize,
@@ -33,13 +27,7 @@ fn layer_fault(
 {
     crate::header_of(inputs, neurons, number, 0)?;
     let n = crate::array_lengths(kind, inputs, neurons);
-    if weights != n[0] {
-        return Err(Refusal::ModelArray);
-    }
-    if recurrent != n[1] {
-        return Err(Refusal::ModelArray);
-    }
-    if bias != n[2] {
+    if weights != n[0] || recurrent != n[1] || bias != n[2] {
         return Err(Refusal::ModelArray);
     }
     Ok(())
@@ -51,13 +39,13 @@ fn layers_fault(shapes: &[u32], lengths: [usize; 18]) -> Result<(), Misread>
     ensures { layer_told result ≡ fault_in (row_faults 0 kinds shapes.now lengths) }
 {
     let kinds = crate::kinds_in_row();
-    for layer in 0..6 {
+    for (layer, kind) in kinds.iter().enumerate() {
         let at = 3 * layer;
         let fits = layer_fault(
-            kinds[layer],
-            wide(shapes[at]),
-            wide(shapes[at + 1]),
-            wide(shapes[at + 2]),
+            *kind,
+            shapes[at] as usize,
+            shapes[at + 1] as usize,
+            shapes[at + 2],
             lengths[at],
             lengths[at + 1],
             lengths[at + 2],
@@ -75,8 +63,8 @@ fn counts_there(shapes: &[u32], at: usize) -> Counts
     ensures { result ≡ counts_there shapes.now at }
 {
     Counts {
-        inputs: wide(shapes[at]),
-        neurons: wide(shapes[at + 1]),
+        inputs: shapes[at] as usize,
+        neurons: shapes[at + 1] as usize,
     }
 }
 
@@ -110,16 +98,13 @@ fn too_short(buffer: usize, lengths: [usize; 18]) -> bool
     ensures { result ≡ ltb buffer (18 + sum lengths) }
 {
     let mut left = buffer;
-    for i in 0..18 {
-        if left < lengths[i] {
+    for length in lengths {
+        if left < length {
             return true;
         }
-        left -= lengths[i];
+        left -= length;
     }
-    if left < 18 {
-        return true;
-    }
-    false
+    left < 18
 }
 
 // Every refusal in turn.
@@ -139,14 +124,14 @@ fn fault_of(shapes: &[u32], lengths: [usize; 18], buffer: usize) -> Result<(), M
 }
 
 // Writes some bytes at a place, and says where they end.
+#[tactic(auto, unfolding(crate::specs::Private::overwritten))]
 fn put(out: &mut [u8], at: usize, bytes: &[u8]) -> usize
     requires { at + length bytes.now ≤ length out.old }
     ensures { Put at bytes.now out.old result out.new }
 {
-    for i in 0..bytes.len() {
-        out[at + i] = bytes[i];
-    }
-    at + bytes.len()
+    let end = at + bytes.len();
+    out[at..end].copy_from_slice(bytes);
+    end
 }
 
 fn header_bytes(shapes: &[u32], first: usize) -> [u8; 3]
@@ -212,6 +197,7 @@ fn put_three(
     put_layer(out, at, shapes, first + 6, w2, r2, b2)
 }
 
+// Stays: an argument for each array, as the C interface has them.
 // Eighteen numbers, inputs, neurons and activation of each layer, and the arrays as they stand: the file is written at
 // the front of the buffer. Another number of shapes is refused with 5 and layer 0.
 pub fn write(

@@ -13,7 +13,8 @@ use Rattle.network.specs.Private.{GateFits}
 use Rattle.model.specs.declared.Activation.{Activation}
 use Rattle.network.proofs.Listed.{activated_all}
 
-pub dense_joined : (weights bias : List ℕ) (activation : Activation) (input : List Float) {n : ℕ} {k : Result Unit Refusal} {a b r : List Float}
+pub dense_joined : (weights bias : List ℕ) (activation : Activation) (input : List Float) {n : ℕ}
+    {k : Result Unit Refusal} {a b r : List Float}
     → DenseArrays n (length weights) (length bias) (length input) → a ≡ copied bias → length a ≡ n
     → MulAdd a weights n 0 input k b → length b ≡ length a
     → r ≡ map (λ x. activated activation (weights_scale ⊗ x)) b → r ≡ dense_of weights bias activation input
@@ -23,7 +24,8 @@ dense_joined weights bias activation input {n} {k} {a} {b} arrays e la add lb e'
     record { rows = omega arith; columns = arrays.weighted } in
     e' ∙ activated_all activation b ∙ rw (lb ∙ la, left add fits, e, arrays.biased)
 
-pub sums_joined : (weights recurrent bias : List ℕ) (input state : List Float) (n offset : ℕ) {k l : Result Unit Refusal}
+pub sums_joined : (weights recurrent bias : List ℕ) (input state : List Float) (n offset : ℕ)
+    {k l : Result Unit Refusal}
     {a b r : List Float}
     → GateFits n (length weights) (length recurrent) (length bias) offset (length input) (length state)
     → a ≡ copied (part offset (offset + n) bias) → length a ≡ n

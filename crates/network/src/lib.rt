@@ -39,7 +39,7 @@ pub fn dense(
     if weights.len() != n * m || bias.len() != n {
         return Err(Refusal::WrongLength);
     }
-    let table = numbers::table::all();
+    let table = layers::Table::new();
     layers::dense(output, &table, weights, bias, activation, input);
     Ok(())
 }
@@ -71,8 +71,14 @@ pub fn gru(
     if weights.len() != stride * m || recurrent.len() != stride * n || bias.len() != stride {
         return Err(Refusal::WrongLength);
     }
-    let table = numbers::table::all();
-    layers::gru_alone(state, &table, weights, recurrent, bias, activation, input);
+    let table = layers::Table::new();
+    let layer = layers::Arrays {
+        weights,
+        recurrent,
+        bias,
+        activation,
+    };
+    layers::gru_alone(state, &table, layer, input);
     Ok(())
 }
 

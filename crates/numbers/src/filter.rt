@@ -27,6 +27,7 @@ pub struct Memory {
 
 // A memory within a call, each number an `f32` still: so a turn waits for no conversion of what the turn before it
 // kept.
+// Stays: a memory with its numbers' type as a parameter is no plainer, since every other crate means that of `f32`.
 #[derive(Clone, Copy)]
 struct Kept {
     m0: f64,

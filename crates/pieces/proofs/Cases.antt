@@ -6,11 +6,9 @@ use Rattle.samples.specs.Samples.{good}
 use Rattle.model.specs.Model.{read_of}
 use Rattle.model.specs.Reading.{Refused as Unread}
 use Rattle.frame.specs.declared.Hearing.{Hearing}
-use Rattle.frame.specs.Reply.{Reply}
-use Rattle.frame.specs.Reply.{Refused, Misread}
+use Rattle.frame.specs.Reply.{Reply, Refused, Misread, passed, ◌refusedIf◌}
 use Rattle.frame.specs.declared.Way.{Way}
 use Rattle.frame.specs.Effect.{Effect, refusal}
-use Rattle.frame.specs.Reply.{passed, ◌refusedIf◌}
 use Rattle.frame.specs.Share.{SHARE}
 use Rattle.frame.proofs.Tables.{by_number, by_rows}
 use Rattle.pieces.specs.Pieces.{waiting_in, piece_fits, piece_rows, begun, piece, resume_fits, resume_rows, resumed}

@@ -1,8 +1,8 @@
 -- From what the parts of the code leave to the definitions.
---     entered, finished, finished-length          a frame's halves, over its part of a share
---     rest-waits, rest-begins                     what becomes of the rest of a piece
---     piece-refused, piece-ends, piece-pauses     the ways that a piece ends
---     resume-refused, resume-goes                 the ways that a resume ends
+--     entered, finished, finished_length          a frame's halves, over its part of a share
+--     rest_waits, rest_begins                     what becomes of the rest of a piece
+--     piece_refused, piece_ends, piece_pauses     the ways that a piece ends
+--     resume_refused, resume_goes                 the ways that a resume ends
 -- Assumes nothing.
 use Rattle.std.specs.Prelude.{◌+◌, ◌-◌, ◌*◌, ◌≤◌, ◌<◌, ◌∷◌, ◌++◌, ◌≡◌}
 use Rattle.rules.proofs.Common.{ℕ, Bool, true, false, cond, List, [], refl}
@@ -18,11 +18,9 @@ use Rattle.frame.proofs.Buffers.{over_none, lent_over}
 use Rattle.samples.specs.Samples.{good}
 use Rattle.model.specs.Model.{read_of}
 use Rattle.frame.specs.declared.Hearing.{Hearing}
-use Rattle.frame.specs.Reply.{Reply}
-use Rattle.frame.specs.Reply.{Done}
+use Rattle.frame.specs.Reply.{Reply, Done, passed}
 use Rattle.frame.specs.declared.Way.{Way}
 use Rattle.frame.specs.Share.{SHARE}
-use Rattle.frame.specs.Reply.{passed}
 use Rattle.frame.specs.Effect.{Effect, refusal, Worked}
 use Rattle.frame.specs.Frame.{counted, checked}
 use Rattle.halves.specs.Halves.{first_half, second_half}

@@ -1,11 +1,11 @@
 // The arithmetic of pitch.rs up to the downsampled signal. (The search over lags is in `pitch_search`.) A public
 // function refuses with `WrongLength`, and changes nothing, exactly if its lengths do not fit; its core does the work.
 //
-// Stays: `recur`, `update`, `lags`, `tail` and the loops of `xcorr_sixteens`, `xcorr_fours_left` and `xcorr_rest` count
-// an index. It is part of their sums of indexes, as in `ac[i - j]`, so an iterator is no plainer.
+// Stays: `recur`, `update`, `lags`, `tail`, `xcorr_by` and `xcorr_rest` count an index. It is part of their sums of
+// indexes, as in `ac[i - j]`, or of their calls, so an iterator is no plainer.
 #![tactic(auto)]
 
-ghost use Rattle.std.specs.Prelude.{◌≡◌, ◌+◌, ◌<◌, ◌≤◌, Ok, Err, length, take};
+ghost use Rattle.std.specs.Prelude.{◌≡◌, ◌+◌, ◌-◌, ◌%◌, ◌<◌, ◌≤◌, Ok, Err, length, take};
 ghost use Rattle.std.specs.Float.Ieee.{neg};
 ghost use Rattle.rules.specs.F32.{f32};
 ghost use Rattle.rules.specs.Leaf.{Leaf, ◌leaving◌};
@@ -17,7 +17,6 @@ ghost use Rattle.pitch.specs.Downsample.{halved_at, halved, floored_at, floored,
 ghost use Rattle.pitch.specs.Downsample.{downsampled, DownsampleFits};
 ghost use Rattle.pitch.specs.Lpc.{recurrence, mirror, state, lag_next, lags_of, lpc_of};
 ghost use Rattle.pitch.specs.Xcorr.{corr, whole_fours, lag_of, pitch_xcorr, XcorrFits};
-ghost use Rattle.pitch.specs.Private.{whole_sixteens};
 
 mod lanes;
 
@@ -147,44 +146,22 @@ fn corr1(xs: &[f32], ys: &[f32], i: usize) -> f32
     sum
 }
 
-// The lags that are computed sixteen at a time.
-fn xcorr_sixteens(xs: &[f32], ys: &[f32], xcorr: &mut [f32])
-    requires { XcorrFits (length xs.now) (length ys.now) (length xcorr.old) }
-    ensures { take (whole_sixteens (length xcorr.old)) xcorr.new
-        ≡ tab (whole_sixteens (length xcorr.old))
-        (lag_of xs.now ys.now (length xcorr.old)) }
-{
-    for k in 0..xcorr.len() / 16 {
-        let i = 16 * k;
-        lanes::put_sixteen(xcorr, i, lanes::corr16(xs, ys, i));
-    }
-}
-
-// The lags after these that are computed four at a time.
-fn xcorr_fours_left(xs: &[f32], ys: &[f32], xcorr: &mut [f32])
+// The lags from `from` on that are computed N at a time.
+fn xcorr_by<const N: usize>(xs: &[f32], ys: &[f32], xcorr: &mut [f32], from: usize)
     requires lengths_fit { XcorrFits (length xs.now) (length ys.now) (length xcorr.old) }
-    requires sixteens_done { take (whole_sixteens (length xcorr.old)) xcorr.old
-        ≡ tab (whole_sixteens (length xcorr.old)) (lag_of xs.now ys.now (length xcorr.old)) }
-    ensures { take (whole_fours (length xcorr.old)) xcorr.new
-        ≡ tab (whole_fours (length xcorr.old))
+    requires fours { (0 < N) × (N % 4 ≡ 0) × (from % 4 ≡ 0) }
+    requires steps { (from ≤ length xcorr.old) × ((length xcorr.old - from) % N ≡ length xcorr.old % N) }
+    requires front_done { take from xcorr.old ≡ tab from (lag_of xs.now ys.now (length xcorr.old)) }
+    ensures { take (length xcorr.old - length xcorr.old % N) xcorr.new
+        ≡ tab (length xcorr.old - length xcorr.old % N)
         (lag_of xs.now ys.now (length xcorr.old)) }
 {
     let n = xcorr.len();
-    for k in n / 16 * 4..n / 4 {
-        let i = 4 * k;
-        lanes::put_four(xcorr, i, lanes::corr4(xs, ys, i));
+    let mut i = from;
+    while n - i >= N {
+        lanes::put(xcorr, i, &lanes::corr_lags::<N>(xs, ys, i));
+        i += N;
     }
-}
-
-// All lags that the Rust computes four at a time.
-fn xcorr_fours(xs: &[f32], ys: &[f32], xcorr: &mut [f32])
-    requires { XcorrFits (length xs.now) (length ys.now) (length xcorr.old) }
-    ensures { take (whole_fours (length xcorr.old)) xcorr.new
-        ≡ tab (whole_fours (length xcorr.old))
-        (lag_of xs.now ys.now (length xcorr.old)) }
-{
-    xcorr_sixteens(xs, ys, xcorr);
-    xcorr_fours_left(xs, ys, xcorr);
 }
 
 // The lags that are left.
@@ -207,7 +184,9 @@ fn pitch_xcorr_core(xs: &[f32], ys: &[f32], xcorr: &mut [f32])
     ensures { xcorr.new
         ≡ pitch_xcorr xs.now ys.now (length xcorr.old) }
 {
-    xcorr_fours(xs, ys, xcorr);
+    let n = xcorr.len();
+    xcorr_by::<16>(xs, ys, xcorr, 0);
+    xcorr_by::<4>(xs, ys, xcorr, n - n % 16);
     xcorr_rest(xs, ys, xcorr);
 }
 

@@ -7,26 +7,9 @@ use Rattle.rules.specs.Refusal.{told}
 use Rattle.rules.specs.declared.refusal.Refusal.{Refusal}
 use Rattle.numbers.specs.Larger.{larger}
 use Rattle.pitch_search.specs.declared.Pitches.{Pitches}
+use Rattle.pitch_search.specs.declared.Search.{Search}
 
--- What the loop carries from lag to lag, by the Rust's names. A correlation is compared as a fraction: its square over
--- the energy of the numbers that it was taken of.
-pub record Search : Type 0 where
-  -- The best lag's squared correlation.
-  pub best_num : Float
-  -- The second best lag's.
-  pub second_best_num : Float
-  -- The best lag's energy.
-  pub best_den : Float
-  -- The second best lag's.
-  pub second_best_den : Float
-  -- The best lag.
-  pub best_pitch : ℕ
-  -- The second best lag.
-  pub second_best_pitch : ℕ
-  -- The energy at the lag that comes next.
-  pub y_sq_norm : Float
-
--- The same from its seven values.
+-- What the loop carries from lag to lag, from its seven values.
 abbrev pub searched : Float → Float → Float → Float → ℕ → ℕ → Float → Search
 searched bn sn bd sd bp sp norm =
     record {

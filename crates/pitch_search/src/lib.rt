@@ -7,7 +7,6 @@ ghost use Rattle.rules.specs.Leaf.{Leaf};
 ghost use Rattle.rules.specs.declared.refusal.Refusal.TheVariants.{WrongLength};
 ghost use Rattle.pitch_search.specs.Best.{start_norm, considered, slid, best, best_of, BestFits};
 ghost use Rattle.pitch_search.specs.Inner.{inner_prod, InnerFits};
-ghost use Rattle.pitch_search.specs.Private.{search_in};
 
 use rules::Refusal;
 
@@ -58,72 +57,75 @@ fn norm(ys: &[f32], len: usize) -> f32
     sum
 }
 
-// What `find_best_pitch` carries from lag to lag, by the Rust's names.
+// What `find_best_pitch` carries from lag to lag, by the Rust's names. A correlation is compared as a fraction: its
+// square over the energy of the numbers that it was taken of.
 #[derive(Clone, Copy)]
-struct Best {
+pub struct Search {
     // The best lag's squared correlation.
-    best_num: f32,
+    pub best_num: f32,
     // The second best lag's.
-    second_best_num: f32,
-    // The energy that the best lag's is compared over.
-    best_den: f32,
+    pub second_best_num: f32,
+    // The best lag's energy.
+    pub best_den: f32,
     // The second best lag's.
-    second_best_den: f32,
+    pub second_best_den: f32,
     // The best lag.
-    best_pitch: usize,
+    pub best_pitch: usize,
     // The second best lag.
-    second_best_pitch: usize,
+    pub second_best_pitch: usize,
     // The energy at the lag that comes next.
-    y_sq_norm: f32,
+    pub y_sq_norm: f32,
 }
 
 // Lag i becomes the best, the second best, or neither.
-fn consider_lag(b: Best, corr: f32, i: usize) -> Best
-    ensures { search_in result ≡ considered corr i (search_in b) }
+#[tactic(auto, unfolding(crate::specs::Best::considered))]
+fn consider_lag(s: Search, corr: f32, i: usize) -> Search
+    ensures { result ≡ considered corr i s }
 {
     if corr > 0.0 {
         let num = corr * corr;
-        if num * b.second_best_den > b.second_best_num * b.y_sq_norm {
-            if num * b.best_den > b.best_num * b.y_sq_norm {
-                return Best {
+        if num * s.second_best_den > s.second_best_num * s.y_sq_norm {
+            if num * s.best_den > s.best_num * s.y_sq_norm {
+                return Search {
                     best_num: num,
-                    second_best_num: b.best_num,
-                    best_den: b.y_sq_norm,
-                    second_best_den: b.best_den,
+                    second_best_num: s.best_num,
+                    best_den: s.y_sq_norm,
+                    second_best_den: s.best_den,
                     best_pitch: i,
-                    second_best_pitch: b.best_pitch,
-                    ..b
+                    second_best_pitch: s.best_pitch,
+                    ..s
                 };
             }
-            return Best {
+            return Search {
                 second_best_num: num,
-                second_best_den: b.y_sq_norm,
+                second_best_den: s.y_sq_norm,
                 second_best_pitch: i,
-                ..b
+                ..s
             };
         }
     }
-    b
+    s
 }
 
 // The energy at the lag after i.
-fn slide_norm(b: Best, ys: &[f32], i: usize, len: usize) -> Best
+#[tactic(auto, unfolding(crate::specs::Best::slid))]
+fn slide_norm(s: Search, ys: &[f32], i: usize, len: usize) -> Search
     requires { i + len < length ys.now }
-    ensures { search_in result ≡ slid ys.now len i (search_in b) }
+    ensures { result ≡ slid ys.now len i s }
 {
     let y_sq_norm = numbers::max(
-        b.y_sq_norm + (ys[i + len] * ys[i + len] - ys[i] * ys[i]),
+        s.y_sq_norm + (ys[i + len] * ys[i + len] - ys[i] * ys[i]),
         1.0,
     );
-    Best { y_sq_norm, ..b }
+    Search { y_sq_norm, ..s }
 }
 
 // `find_best_pitch` for lengths that fit.
-fn find_best_pitch_core(xcorr: &[f32], ys: &[f32], len: usize) -> Best
+fn find_best_pitch_core(xcorr: &[f32], ys: &[f32], len: usize) -> Search
     requires { BestFits (length xcorr.now) (length ys.now) len }
-    ensures { search_in result ≡ best xcorr.now ys.now len }
+    ensures { result ≡ best xcorr.now ys.now len }
 {
-    let mut b = Best {
+    let mut s = Search {
         best_num: -1.0,
         second_best_num: -1.0,
         best_den: 0.0,
@@ -133,9 +135,9 @@ fn find_best_pitch_core(xcorr: &[f32], ys: &[f32], len: usize) -> Best
         y_sq_norm: norm(ys, len),
     };
     for (i, corr) in xcorr.iter().enumerate() {
-        b = slide_norm(consider_lag(b, *corr, i), ys, i, len);
+        s = slide_norm(consider_lag(s, *corr, i), ys, i, len);
     }
-    b
+    s
 }
 
 // The two lags that `find_best_pitch` finds.
@@ -155,9 +157,9 @@ pub fn find_best_pitch(xcorr: &[f32], ys: &[f32], len: usize) -> Result<Pitches,
     if ys.len() < len || ys.len() - len < xcorr.len() {
         return Err(Refusal::WrongLength);
     }
-    let b = find_best_pitch_core(xcorr, ys, len);
+    let s = find_best_pitch_core(xcorr, ys, len);
     Ok(Pitches {
-        first: b.best_pitch,
-        second: b.second_best_pitch,
+        first: s.best_pitch,
+        second: s.second_best_pitch,
     })
 }

@@ -8,7 +8,7 @@ ghost use Rattle.std.specs.Prelude.{false, ◌≡◌, ◌+◌, ◌*◌, ◌/◌,
 ghost use Rattle.rules.specs.Leaf.{◌leaving◌};
 ghost use Rattle.rules.specs.Lists.{sum};
 ghost use Rattle.rules.specs.Refusal.{told};
-ghost use Rattle.sheet.specs.Sheet.{kind, record_bytes, records_of, trailer_of, sheet_size};
+ghost use Rattle.sheet.specs.Sheet.{four, kind, record_bytes, records_of, trailer_of, sheet_size};
 ghost use Rattle.sheet.specs.End.{from_four, three_zeros, good_record, run, entry_of, read_as, read_sheet};
 ghost use Rattle.sheet.specs.Asked.{sheet_summary, entry_at};
 ghost use Rattle.sheet.specs.Written.{known_kinds, written_of};
@@ -31,7 +31,7 @@ pub struct Found {
 pub fn joined(a: u8, b: u8, c: u8, d: u8) -> usize
     ensures { (result ≡ a + 256 * b + 65536 * c + 16777216 * d) × (result < 2 ^ 32) }
 {
-    (a as usize) + 256 * (b as usize) + 65536 * (c as usize) + 16777216 * (d as usize)
+    u32::from_le_bytes([a, b, c, d]) as usize
 }
 
 // The number that four bytes at a place are, least significant byte first.
@@ -43,6 +43,7 @@ fn number_at(file: &[u8], at: usize) -> usize
 }
 
 // Whether three bytes at a place are 0.
+// Stays: with `&&` in place of the tests in a row it was tried, and the proof didn't close. So it is in `is_good`.
 fn zeros_at(bytes: &[u8], at: usize) -> bool
     requires { at + 3 ≤ length bytes.now }
     ensures { result ≡ three_zeros (drop at bytes.now) }
@@ -185,6 +186,7 @@ pub fn entry(entry: &mut [u64], file: &[u8], index: u64) -> Result<(), Refusal>
 }
 
 // Whether every entry is silent or heard.
+// Stays: `iter().all(..)` was tried, and the proof didn't close.
 fn kinds_good(entries: &[u64]) -> bool
     ensures { result ≡ known_kinds entries.now }
 {
@@ -202,46 +204,35 @@ pub fn low(number: u64) -> u8
     (number % 256) as u8
 }
 
+// The four bytes of a number modulo 2^32, least significant byte first.
+pub fn four(number: u64) -> [u8; 4]
+    ensures { result ≡ four number }
+{
+    ((number % 4294967296) as u32).to_le_bytes()
+}
+
 fn record_of(side: u32, entry: u64) -> [u8; 8]
     requires { (side ≤ 1) × (kind entry ≤ 1) }
     ensures { result ≡ record_bytes side entry }
 {
-    [
-        low(entry),
-        low(entry / 256),
-        low(entry / 65536),
-        low(entry / 16777216),
-        low(entry / 4294967296),
-        side as u8,
-        0,
-        0,
-    ]
+    let mut bytes = [0; 8];
+    bytes[..4].copy_from_slice(&four(entry));
+    bytes[4] = (entry / 4294967296) as u8;
+    bytes[5] = side as u8;
+    bytes
 }
 
 fn trailer_of(records: usize, side: u32, sum: u64) -> [u8; 16]
     requires { (records < 2 ^ 29) × (side ≤ 1) }
     ensures { result ≡ trailer_of records side sum }
 {
-    let n = records as u64;
-    let distance = 8 * n;
-    [
-        low(distance),
-        low(distance / 256),
-        low(distance / 65536),
-        low(distance / 16777216),
-        low(n),
-        low(n / 256),
-        low(n / 65536),
-        low(n / 16777216),
-        side as u8,
-        0,
-        0,
-        0,
-        low(sum),
-        low(sum / 256),
-        low(sum / 65536),
-        low(sum / 16777216),
-    ]
+    let n = records as u32;
+    let mut bytes = [0; 16];
+    bytes[..4].copy_from_slice(&(8 * n).to_le_bytes());
+    bytes[4..8].copy_from_slice(&n.to_le_bytes());
+    bytes[8..12].copy_from_slice(&[side as u8, 0, 0, 0]);
+    bytes[12..].copy_from_slice(&four(sum));
+    bytes
 }
 
 fn write_records(out: &mut [u8], side: u32, entries: &[u64])

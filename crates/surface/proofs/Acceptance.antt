@@ -18,11 +18,9 @@ use Rattle.model.specs.declared.Model.{Model}
 use Rattle.model.specs.Reading.{Reading, Good, Refused as Unread}
 use Rattle.features.specs.Silence.{energy, is_silent}
 use Rattle.frame.specs.declared.Hearing.{Hearing}
-use Rattle.frame.specs.Reply.{Reply}
-use Rattle.frame.specs.Reply.{Done, Refused, Misread}
+use Rattle.frame.specs.Reply.{Reply, Done, Refused, Misread, passed, ◌refusedIf◌, first_refusal}
 use Rattle.frame.specs.declared.Way.{Way}
 use Rattle.frame.specs.Effect.{Effect, refusal, unless}
-use Rattle.frame.specs.Reply.{passed, ◌refusedIf◌, first_refusal}
 use Rattle.frame.specs.Heard.{Spoken, spoken}
 use Rattle.frame.specs.Share.{PART, SHARE, input_mem, kept_ex}
 use Rattle.lag.specs.Lag.{own_lag}

@@ -5,9 +5,8 @@ use Rattle.rules.proofs.Common.{leb, length, Float}
 use Rattle.rules.specs.Place.{get}
 use Rattle.rules.specs.Refusals.{◌when◌, refusing}
 use Rattle.samples.specs.Samples.{good}
-use Rattle.frame.specs.Reply.{Refused}
+use Rattle.frame.specs.Reply.{Refused, passed}
 use Rattle.frame.specs.Effect.{Effect, refusal}
-use Rattle.frame.specs.Reply.{passed}
 use Rattle.pieces.specs.Pieces.{waiting_in, completes, piece_fits}
 use Rattle.desk.specs.Answer.{Answer}
 use Rattle.desk.specs.declared.Record.{Record}

@@ -19,9 +19,7 @@ use Rattle.rules.proofs.Places.{length_get, get_whole, put_whole}
 use Rattle.rules.proofs.Tests.{both}
 use Rattle.desk.specs.Answer.{Answer}
 use Rattle.frame.specs.Effect.{Effect}
-use Rattle.frame.specs.Reply.{Reply}
-use Rattle.frame.specs.Reply.{Done}
-use Rattle.frame.specs.Reply.{passed}
+use Rattle.frame.specs.Reply.{Reply, Done, passed}
 use Rattle.frame.specs.Share.{SHARE}
 use Rattle.pieces.specs.Pieces.{waiting_in, waits}
 use Rattle.pieces.proofs.Shares.{waiting_length, waits_length}

@@ -13,9 +13,7 @@ use Rattle.rules.proofs.Refusals.{along}
 use Rattle.frame.specs.Written.{first_in}
 use Rattle.logs.specs.Log10.{logs_of}
 use Rattle.frame.specs.Effect.{Effect, refusal}
-use Rattle.frame.specs.Reply.{Reply}
-use Rattle.frame.specs.Reply.{Refused}
-use Rattle.frame.specs.Reply.{passed}
+use Rattle.frame.specs.Reply.{Reply, Refused, passed}
 use Rattle.pieces.specs.Pieces.{completes}
 use Rattle.desk.specs.Answer.{Answer}
 use Rattle.desk.specs.declared.Record.{Record}

@@ -14,9 +14,7 @@ use Rattle.rules.proofs.Places.{length_get, get_put}
 use Rattle.rules.proofs.Refusals.{by_rows}
 use Rattle.desk.specs.Answer.{Answer}
 use Rattle.frame.specs.Effect.{Effect, refusal}
-use Rattle.frame.specs.Reply.{Reply}
-use Rattle.frame.specs.Reply.{Refused}
-use Rattle.frame.specs.Reply.{passed}
+use Rattle.frame.specs.Reply.{Reply, Refused, passed}
 use Rattle.frame.specs.Share.{SHARE}
 use Rattle.pieces.specs.Pieces.{waiting_in}
 use Rattle.desk.specs.declared.Record.{Record}

@@ -18,11 +18,9 @@ use Rattle.model.proofs.Bounds.{refused_in}
 use Rattle.lag.specs.Lag.{own_lag}
 use Rattle.features.specs.Silence.{energy, is_silent}
 use Rattle.frame.specs.Effect.{Effect, refusal, unless}
-use Rattle.frame.specs.Reply.{Reply}
-use Rattle.frame.specs.Reply.{Done, Silent, Heard, Numbered, Refused, Misread}
+use Rattle.frame.specs.Reply.{Reply, Done, Silent, Heard, Numbered, Refused, Misread, passed, ◌refusedIf◌}
 use Rattle.frame.specs.declared.Way.{Way}
 use Rattle.frame.specs.declared.Hearing.{Hearing}
-use Rattle.frame.specs.Reply.{passed, ◌refusedIf◌}
 use Rattle.frame.specs.Share.{SHARE, PART, input_mem, kept_ex}
 use Rattle.frame.specs.Heard.{spoken}
 use Rattle.frame.specs.Frame.{done3, counted, checked, modelled}

@@ -19,10 +19,8 @@ use Rattle.rules.proofs.Refusals.{along, by_rows}
 use Rattle.model.specs.Model.{read_of}
 use Rattle.model.specs.Reading.{Reading, Good, Refused as Unread}
 use Rattle.frame.specs.Effect.{Effect, refusal}
-use Rattle.frame.specs.Reply.{Reply}
-use Rattle.frame.specs.Reply.{Refused}
+use Rattle.frame.specs.Reply.{Reply, Refused, passed, ◌refusedIf◌, first_refusal}
 use Rattle.frame.specs.declared.Way.{Way}
-use Rattle.frame.specs.Reply.{passed, ◌refusedIf◌, first_refusal}
 use Rattle.frame.specs.Share.{SHARE}
 use Rattle.pieces.specs.Pieces.{waiting_in}
 use Rattle.pieces.proofs.Halved.{first_length, second_length}

@@ -22,10 +22,8 @@ use Rattle.model.specs.Reading.{Reading, Good, Refused as Unread}
 use Rattle.frame.specs.Written.{Written, from, nothing, first_in}
 use Rattle.frame.specs.Frame.{counted, checked}
 use Rattle.frame.specs.Effect.{Effect, refusal}
-use Rattle.frame.specs.Reply.{passed}
+use Rattle.frame.specs.Reply.{passed, Reply, Done, Refused}
 use Rattle.frame.specs.Share.{SHARE}
-use Rattle.frame.specs.Reply.{Reply}
-use Rattle.frame.specs.Reply.{Done, Refused}
 use Rattle.frame.specs.declared.Hearing.{Hearing}
 use Rattle.frame.specs.declared.Way.{Way}
 use Rattle.halves.specs.Halves as halves

@@ -1,5 +1,5 @@
 -- A seal laid into a buffer, and each answer of its writer and its reader. Assumes nothing.
-use Rattle.std.specs.Prelude.{Option, Some, None, ◌+◌, ◌-◌, ◌*◌, ◌≤◌, ◌<◌, ◌∷◌, ◌++◌, ◌≡◌}
+use Rattle.std.specs.Prelude.{Option, Some, None, ◌+◌, ◌-◌, ◌*◌, ◌≤◌, ◌<◌, ◌++◌, ◌≡◌}
 use Rattle.rules.proofs.Common.{ℕ, List, [], refl, sym, ap, ◌∙◌, length, take}
 use Rattle.rules.proofs.Common.{drop, length-drop, length-append}
 use mathlib.Core.List.{append-nil}
@@ -74,9 +74,6 @@ module _ (w : Word) (s : List ℕ) where
             )
 
 -- ---- written
-
-pub also : {x y : ℕ} {xs ys : List ℕ} → x ≡ y → xs ≡ ys → (x ∷ xs) ≡ (y ∷ ys)
-also e es = cc
 
 pub length_said : (w : Word) (x : Seal) → length (said w x) ≡ 20
 unfolding said four

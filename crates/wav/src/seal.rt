@@ -29,7 +29,7 @@ pub struct Seal {
 }
 
 // Four letters as a number, least significant byte first.
-fn word_of(word: Word) -> u64
+fn word_of(word: Word) -> u32
     ensures { result ≡ word_of word }
 {
     match word {
@@ -39,31 +39,15 @@ fn word_of(word: Word) -> u64
 }
 
 // The 20 bytes of four numbers, the third of 64 bits.
-fn twenty(letters: u64, name: u64, long: u64, short: u64) -> [u8; 20]
+fn twenty(letters: u32, name: u32, long: u64, short: u32) -> [u8; 20]
     ensures { result ≡ twenty_of letters name long short }
 {
-    [
-        sheet::low(letters),
-        sheet::low(letters / 256),
-        sheet::low(letters / 65536),
-        sheet::low(letters / 16777216),
-        sheet::low(name),
-        sheet::low(name / 256),
-        sheet::low(name / 65536),
-        sheet::low(name / 16777216),
-        sheet::low(long),
-        sheet::low(long / 256),
-        sheet::low(long / 65536),
-        sheet::low(long / 16777216),
-        sheet::low(long / 4294967296),
-        sheet::low(long / 4294967296 / 256),
-        sheet::low(long / 4294967296 / 65536),
-        sheet::low(long / 4294967296 / 16777216),
-        sheet::low(short),
-        sheet::low(short / 256),
-        sheet::low(short / 65536),
-        sheet::low(short / 16777216),
-    ]
+    let mut bytes = [0; 20];
+    bytes[..4].copy_from_slice(&letters.to_le_bytes());
+    bytes[4..8].copy_from_slice(&name.to_le_bytes());
+    bytes[8..16].copy_from_slice(&long.to_le_bytes());
+    bytes[16..].copy_from_slice(&short.to_le_bytes());
+    bytes
 }
 
 // The seal without its own checksum.
@@ -71,12 +55,7 @@ fn said_by(word: Word, seal: Seal) -> [u8; 20]
     ensures { result ≡ said word seal }
 {
     let side = seal.side;
-    twenty(
-        word_of(word),
-        side.letters() as u64,
-        seal.long,
-        seal.short as u64,
-    )
+    twenty(word_of(word), side.letters(), seal.long, seal.short)
 }
 
 fn lay(out: &mut [u8], word: Word, seal: Seal)
@@ -84,7 +63,7 @@ fn lay(out: &mut [u8], word: Word, seal: Seal)
     ensures { out.new ≡ seal_of word seal }
 {
     let front = said_by(word, seal);
-    let own = bytes::four_of(checksum::crc32(0, &front) as u64);
+    let own = sheet::four(checksum::crc32(0, &front) as u64);
     out[..20].copy_from_slice(&front);
     out[20..].copy_from_slice(&own);
 }
@@ -119,7 +98,7 @@ pub fn read(word: Word, file: &[u8]) -> Result<Seal, Refusal>
     if file.len() < 24 {
         return Err(Refusal::SealNone);
     }
-    if bytes::four_at(file, 0) != word_of(word) {
+    if bytes::four_at(file, 0) != word_of(word) as u64 {
         return Err(Refusal::SealNone);
     }
     if bytes::four_at(file, 20) != checksum::crc32(0, &file[..20]) as u64 {

@@ -11,9 +11,6 @@ pub returns-in-Err : goal.returns-in-Err
 returns-in-Err c =
     let e = rw (
       c.kinds_in_row-kinds.ensures,
-      c.wide.ensures,
-      c.wide-in-loop-layer.ensures,
-      c.wide-in-loop-layer-2.ensures,
       c.in-Err.is,
     ) at
     c.layer_fault-fits.ensures in
@@ -25,9 +22,6 @@ pub loop-layer-preserved : goal.loop-layer-preserved
 loop-layer-preserved c =
     let e = rw (
       c.kinds_in_row-kinds.ensures,
-      c.wide.ensures,
-      c.wide-in-loop-layer.ensures,
-      c.wide-in-loop-layer-2.ensures,
       c.in_default.is,
     ) at
     c.layer_fault-fits.ensures in (

@@ -4,8 +4,7 @@ use Rattle.std.specs.Prelude.{◌++◌, ◌≡◌}
 use Rattle.rules.proofs.Common.{ℕ, true, List, [], refl, ap, ◌∙◌, length, Float}
 use native.Mathlib.Omega.{arith}
 use Rattle.samples.specs.Samples.{good}
-use Rattle.frame.specs.Reply.{Reply}
-use Rattle.frame.specs.Reply.{passed}
+use Rattle.frame.specs.Reply.{Reply, passed}
 use Rattle.frame.proofs.Answered.{passed_on, refused_lem}
 use Rattle.pieces.specs.Pieces.{waiting_in, padded_to}
 use Rattle.pieces.specs.Private.{piece_reply}

@@ -4,8 +4,7 @@ use Rattle.std.specs.Prelude.{◌≡◌}
 use Rattle.rules.proofs.Common.{ℕ, true, List, refl, Float}
 use native.Mathlib.Omega.{arith}
 use Rattle.frame.specs.declared.Hearing.{Hearing}
-use Rattle.frame.specs.Reply.{Reply}
-use Rattle.frame.specs.Reply.{passed}
+use Rattle.frame.specs.Reply.{Reply, passed}
 use Rattle.frame.proofs.Answered.{passed_on, refused_lem}
 use Rattle.pieces.specs.Private.{resume_reply}
 use Rattle.pieces.proofs.Accepted.{Resume, resume_accepted, within_samples, frame_fits}

@@ -10,7 +10,7 @@ returns c =
     laid a.word a.seal a.out.now
     c.requires (c.copy_from_slice.ensures.after
     ∙ c.said_by-front.ensures) (c.copy_from_slice-2.ensures.after
-    ∙ c.four_of-own.ensures)
+    ∙ c.four-own.ensures)
     (c.crc32.ensures
     ∙ ap (crc32 0)
     c.said_by-front.ensures)
