@@ -2,23 +2,23 @@
 use Rattle.std.specs.Prelude.{◌≡◌, Result, Ok, Err, IfOk, IsOk, IsErrAnd}
 use Rattle.rules.proofs.Common.{true, false, false≢true, refl, sym, ap, ◌∙◌}
 use native.Mathlib.Omega.{arith}
-use Rattle.rules.specs.Refusal.{number_of}
+use Rattle.rules.specs.Refusal.{number_of, told}
 use Rattle.rules.specs.declared.refusal.Refusal.{Refusal}
 use Rattle.rules.specs.declared.refusal.Refusal.TheVariants as refusal
 use Rattle.frame.specs.Reply.{passed}
 use Rattle.frame.specs.Answer.{reply_of, reply_told, reply_refused}
 use Rattle.frame.specs.declared.answer.Told.{Told}
-use Rattle.frame.specs.declared.answer.Told.TheVariants as told
+use Rattle.frame.specs.declared.answer.Told.TheVariants as tells
 use Rattle.frame.specs.declared.answer.Cause.{Cause}
 use Rattle.frame.specs.declared.answer.Cause.TheVariants as cause
 use Rattle.desk.specs.Answer.{answer_of}
 use Rattle.desk.specs.declared.Record.{Record}
 
 pub done_passes : (told : Told) → passed (reply_told told) ≡ true
-done_passes told.Done = refl
-done_passes told.Silent = refl
-done_passes (told.Heard v e) = refl
-done_passes (told.Numbered f h) = refl
+done_passes tells.Done = refl
+done_passes tells.Silent = refl
+done_passes (tells.Heard v e) = refl
+done_passes (tells.Numbered f h) = refl
 
 pub refused_fails : (why : Cause) → passed (reply_refused why) ≡ false
 refused_fails (cause.Plain refusal) = refl
@@ -98,3 +98,8 @@ never_0 refusal.RecorderRecords e = omega arith
 never_0 refusal.RecorderSize e = omega arith
 never_0 refusal.RecorderFrames e = omega arith
 never_0 refusal.RecorderNoCut e = omega arith
+
+-- what is told as 0 is done
+pub told_done : {T : Type 0} (outcome : Result T Refusal) → told outcome ≡ 0 → IsOk outcome
+told_done (Ok x) e = refl
+told_done (Err refusal) e = absurd (never_0 refusal e)

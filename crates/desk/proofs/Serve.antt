@@ -4,8 +4,8 @@
 --     framed              a call of a frame gets through, and was lent the frame's part alone
 --     misread, wiped      an opening that gets through, whose model is refused or reads
 -- Assumes nothing.
-use Rattle.std.specs.Prelude.{◌+◌, ◌-◌, ◌≡◌, Result, Ok, Err, IsErrAnd}
-use Rattle.rules.proofs.Common.{ℕ, Bool, true, false, cond, true≢false, false≢true, List, [], refl}
+use Rattle.std.specs.Prelude.{◌-◌, ◌≡◌, Result, Ok, Err, IsErrAnd}
+use Rattle.rules.proofs.Common.{ℕ, true, false, cond, true≢false, false≢true, List, [], refl}
 use Rattle.rules.proofs.Common.{sym, ap, ◌∙◌, length}
 use Rattle.rules.proofs.Common.{replicate, Float}
 use native.Mathlib.Nat.{add-sub_cancel_left, add-zero}
