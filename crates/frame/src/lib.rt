@@ -128,7 +128,14 @@ pub fn call3(
         return Err(Cause::Plain(Refusal::WrongLength));
     }
     heard::check(model, hearing)?;
-    Ok(heard::listen(share, out, hearing.index, spectrum, logs, model))
+    Ok(heard::listen(
+        share.as_mut_array().unwrap(),
+        out.as_mut_array().unwrap(),
+        hearing.index,
+        spectrum.as_array().unwrap(),
+        logs.as_array().unwrap(),
+        model,
+    ))
 }
 
 // Call 4: 960 inverse samples in, 480 numbers written.
