@@ -99,7 +99,12 @@ pub fn call2(
     let back = lag.0;
     let from = 768 - back;
     bands::apply_window(window, &share[from..from + 960]).unwrap();
-    lagged::note(share, spectrum, Lag(back), sums);
+    lagged::note(
+        share.as_mut_array().unwrap(),
+        spectrum.as_array().unwrap(),
+        Lag(back),
+        sums.as_mut_array().unwrap(),
+    );
     Ok(Told::Done)
 }
 
