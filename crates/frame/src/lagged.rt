@@ -61,12 +61,7 @@ fn keep(share: &mut [f32; PART], ex: &[f32; 22], lag: Lag)
 
 // What call 2 does after its window is written.
 #[tactic(auto, unfolding(crate::specs::Frame::put_kept))]
-pub(crate) fn note(
-    share: &mut [f32; PART],
-    spectrum: &[f32; 961],
-    lag: Lag,
-    sums: &mut [f32; 22],
-)
+pub(crate) fn note(share: &mut [f32; PART], spectrum: &[f32; 961], lag: Lag, sums: &mut [f32; 22])
     requires { lag.0 ≤ 768 }
     ensures share_after { share.new ≡ put_kept share.old spectrum.now lag.0 }
     ensures sums_after { sums.new ≡ plus_hundredth (energies spectrum.now) }

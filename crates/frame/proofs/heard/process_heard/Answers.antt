@@ -1,7 +1,4 @@
 -- `frame::heard::process_heard` meets its contract: what each stage leaves, in a row. Assumes nothing.
-use Rattle.rules.proofs.Common.{ap, ◌∙◌, length}
-use native.Mathlib.Omega.{arith}
-use Rattle.frame.proofs.Sizes.{x_size, ex_size}
 use Rattle.frame.proofs.Spoken.{spoke}
 use Rattle.frame.proofs.heard.process_heard.Goals as goal
 
