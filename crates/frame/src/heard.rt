@@ -10,7 +10,7 @@ ghost use Rattle.frame.specs.Heard.{energies, featured, rnn_of, held_gains, spok
 ghost use Rattle.frame.specs.Effect.{Worked};
 ghost use Rattle.frame.specs.Frame.{done3, counted, checked};
 ghost use Rattle.frame.specs.Private.{IsModel, Reads, featured_as, rnn_as, spoken_as};
-ghost use Rattle.frame.specs.Answer.{reply_told, reply_of_test};
+ghost use Rattle.frame.specs.Answer.{reply_told, test_as_reply};
 
 use crate::{Cause, Hearing, PART, Told};
 use rules::Refusal;
@@ -31,7 +31,7 @@ struct Lent<'a> {
 // The model's test: refused with 7 if it does not read, and with 8 if it has other GRU sizes.
 #[tactic(auto, using(rules::proofs::Tests::tests), unfolding(crate::specs::Frame::checked))]
 pub fn check(model: &[u8], hearing: Hearing) -> Result<(), Cause>
-    ensures { reply_of_test result ≡ checked (counted hearing) (read_of model.now) }
+    ensures { test_as_reply result ≡ checked (counted hearing) (read_of model.now) }
 {
     let m = model::read(model)?;
     if m.vad_gru.neurons != hearing.vad

@@ -36,7 +36,8 @@ sensed share index p ep logs hx hex hlag h =
     )
 
 -- every length is as it should be
-fit : (share features exp p ep logs : List Float) {x ex : List Float} {index : ℕ} → length share ≡ 3778 → length features ≡ 42
+fit : (share features exp p ep logs : List Float) {x ex : List Float} {index : ℕ}
+    → length share ≡ 3778 → length features ≡ 42
     → length exp ≡ 22 → index ≤ 7 → length p ≡ 961 → length ep ≡ 22 → length logs ≡ 22 → x ≡ get kept_x share
     → ex ≡ get kept_ex share
     → FeaturesFit (length features) (length exp) (length (get cepstral_mem share)) index (length x) (length p)
