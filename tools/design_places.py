@@ -15,6 +15,9 @@ from collections import Counter, defaultdict
 TOP = pathlib.Path(__file__).resolve().parent.parent / "crates"
 FUNCTION = re.compile(r"^( *)((?:pub(?:\([a-z]+\))? )?(?:unsafe )?(?:extern \"C\" )?fn (\w+))", re.M)
 FOR_RANGE = re.compile(r"^\s*for (\w+) in [^{]*\.\.[^{]*\{", re.M)
+REFUSES = r"return [1-9]\d*;|return fault|Refused\(\d+\)|return refused;|return number;"
+REFUSING = r"u32|Reply|Step|Reading|Found|Computed|Answer"
+SWITCH = r"match (which|layer|call|way|kind|activation)\b|if (call|which|way|j|r) == \d"
 OWN_ENUM_WORDS = {"Refused", "Nothing", "Misread", "None", "Unread"}
 
 
@@ -114,8 +117,8 @@ def places():
         for function in own:
             if is_table(function):
                 continue
-            refuses = re.search(r"return [1-9]\d*;|return fault|Refused\(\d+\)|return refused;|return number;", function.body)
-            if refuses and not function.exported and re.match(r"u32|Reply|Step|Reading|Found|Computed|Answer", function.result):
+            refuses = re.search(REFUSES, function.body)
+            if refuses and not function.exported and re.match(REFUSING, function.result):
                 found["1 functions that give a refusal as a number"].append(function.place())
             for parameter, kind in function.parameters:
                 if parameter in ("format", "call", "which", "kind", "layer") and kind.strip() in ("u32", "usize"):
@@ -138,7 +141,7 @@ def places():
                 found["4 order by hand"].append(function.place())
             if len(re.findall(r"return false;", function.body)) >= 2 and "for " not in function.body:
                 found["4 a conjunction by returns"].append(function.place())
-            if re.search(r"match (which|layer|call|way|kind|activation)\b|if (call|which|way|j|r) == \d", function.body):
+            if re.search(SWITCH, function.body):
                 found["7 a switch on a number or a way"].append(function.place())
     shapes = defaultdict(list)
     held = defaultdict(lambda: defaultdict(list))
@@ -165,7 +168,8 @@ def places():
     for crate, by_names in together.items():
         for names, where in by_names.items():
             if len(where) >= 3:
-                found["5 four parameters or more, the same in three functions"].append(f"{crate}: {', '.join(names)} ({len(where)})")
+                place = f"{crate}: {', '.join(names)} ({len(where)})"
+                found["5 four parameters or more, the same in three functions"].append(place)
     for crate in sorted({path.relative_to(TOP).parts[0] for path in TOP.glob("*/proofs/**/Answers.antt")}):
         for path in sorted((TOP / crate / "proofs").glob("**/Answers.antt")):
             found["8 functions with answers by hand"].append(str(path.relative_to(TOP)))
@@ -187,7 +191,8 @@ def main():
             for place in found[name]:
                 print(f"    {place}")
         elif "--crates" in sys.argv:
-            print("    " + ", ".join(f"{crate} {n}" for crate, n in sorted(Counter(map(crate_of, found[name])).items())))
+            by_crate = sorted(Counter(map(crate_of, found[name])).items())
+            print("    " + ", ".join(f"{crate} {n}" for crate, n in by_crate))
 
 
 main()

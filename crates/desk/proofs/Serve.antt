@@ -13,7 +13,7 @@ use native.Mathlib.Omega.{arith}
 use borrow.Author.Tests.{ne_eqb}
 use Rattle.rules.specs.F32.{f32, zeros}
 use Rattle.rules.specs.Place.{Place, get, put}
-use Rattle.rules.specs.Refusal.{number_of}
+use Rattle.rules.specs.Refusal.{refusal_number}
 use Rattle.rules.specs.declared.refusal.Refusal.{Refusal}
 use Rattle.frame.specs.Written.{onto}
 use Rattle.rules.proofs.Places.{put_get, put_in, get_get, length_get}
@@ -34,7 +34,8 @@ use Rattle.desk.specs.Gate.{gate, share_of}
 use Rattle.desk.specs.Desk.{Ask, opening, call_of, started, answered, opened, on_share, desk}
 use Rattle.desk.specs.Private.{Lies, opened_of}
 use Rattle.desk.specs.declared.Share.{Share}
-use Rattle.desk.proofs.Results.{never_0, done_passes, refused_fails}
+use Rattle.rules.proofs.Numbered.{never_0}
+use Rattle.desk.proofs.Results.{done_passes, refused_fails}
 use Rattle.desk.proofs.Answered.{refused}
 use Rattle.desk.proofs.Turned.{through}
 
@@ -54,15 +55,16 @@ lent_part side len share e = rw (e.start, e.part, add-sub_cancel_left)
 
 module _ (benches side : ℕ) (b : Record) (store : List Float) (held : List (List Float)) (ask : Ask) where
   pub turned_away_lem : (refusal : Refusal) (result : Result (Told × Record) Cause)
-      → number_of refusal ≡ gate benches side b (length store) (call_of ask)
+      → refusal_number refusal ≡ gate benches side b (length store) (call_of ask)
       → IsErrAnd result (λ why. why ≡ Plain refusal)
       → Worked (desk benches side b store ask) (answer_of b result) store held held
   unfolding desk
   turned_away_lem refusal (Ok x) e w = absurd w
   turned_away_lem refusal (Err why) e w =
-      rw (← e, ne_eqb (number_of refusal) 0 (never_0 refusal))
+      rw (← e, ne_eqb (refusal_number refusal) 0 (never_0 refusal))
       (record {
-        answers = rw w (ap (λ (x : Reply). record { reply = x; rec = b }) (sym (refused b ask (number_of refusal))));
+        answers =
+            rw w (ap (λ (x : Reply). record { reply = x; rec = b }) (sym (refused b ask (refusal_number refusal))));
         keeps = sym (put_get (share_of side) store);
         writes = refl;
       })
@@ -71,8 +73,9 @@ module _ (benches side : ℕ) (b : Record) (store : List Float) (held : List (Li
   own = get (share_of side) store
 
   module _ {r : Answer} (z : 0 ≡ gate benches side b (length store) (call_of ask)) where
-    pub past : {reply : Reply} {new : List Float} {out : List (List Float)} → Worked (on_share b own ask) reply new held out
-        → r ≡ answered b ask reply → Worked (desk benches side b store ask) r (put (share_of side) store new) held out
+    pub past : {reply : Reply} {new : List Float} {out : List (List Float)}
+        → Worked (on_share b own ask) reply new held out → r ≡ answered b ask reply
+        → Worked (desk benches side b store ask) r (put (share_of side) store new) held out
     unfolding desk
     past w a =
         rw (← z)

@@ -9,11 +9,11 @@ ghost use Rattle.desk.specs.Gate.{in_pieces, in_range, is_due, gate};
 ghost use Rattle.desk.specs.Desk.{opening, call1, call2, call2_own, call3, call4, first_half, second_half, piece};
 ghost use Rattle.desk.specs.Desk.{resume, record_of, holding, next_index, next_hearing, next_heard, next_due};
 ghost use Rattle.desk.specs.Desk.{advanced, numbered, carried, desk};
-ghost use Rattle.model.specs.Reading.{reading_of};
+ghost use Rattle.model.specs.Reading.{model_read};
 ghost use Rattle.desk.specs.Answer.{answer_of};
 ghost use Rattle.desk.specs.Private.{Admits, told_of, told_fourth, told_first, told_second, told_piece, told_resume};
 ghost use Rattle.desk.specs.Private.{opened_of};
-ghost use Rattle.frame.specs.Answer.{reply_of, reply_told};
+ghost use Rattle.frame.specs.Answer.{as_reply, reply_told};
 ghost use Rattle.frame.specs.Effect.{Worked};
 
 use frame::{Cause, Hearing, Lag, Told, Way};
@@ -352,7 +352,7 @@ fn numbered(rec: Record) -> Record
 
 // The answer to a frame call: if it is done, the record moves on.
 fn told(rec: Record, outcome: Result<Told, Cause>) -> Result<(Told, Record), Cause>
-    ensures { answer_of rec result ≡ told_of rec (reply_of outcome) }
+    ensures { answer_of rec result ≡ told_of rec (as_reply outcome) }
 {
     let told = outcome?;
     Ok((told, advanced(rec, told)))
@@ -360,7 +360,7 @@ fn told(rec: Record, outcome: Result<Told, Cause>) -> Result<(Told, Record), Cau
 
 // The answer to call 4: the frames and the heard frames, as they then stand.
 fn told_fourth(rec: Record, outcome: Result<Told, Cause>) -> Result<(Told, Record), Cause>
-    ensures { answer_of rec result ≡ told_fourth rec (reply_of outcome) }
+    ensures { answer_of rec result ≡ told_fourth rec (as_reply outcome) }
 {
     outcome?;
     let next = numbered(rec);
@@ -373,7 +373,7 @@ fn told_fourth(rec: Record, outcome: Result<Told, Cause>) -> Result<(Told, Recor
 
 // The answer to a first half, which is two calls.
 fn told_first(rec: Record, outcome: Result<Told, Cause>) -> Result<(Told, Record), Cause>
-    ensures { answer_of rec result ≡ told_first rec (reply_of outcome) }
+    ensures { answer_of rec result ≡ told_first rec (as_reply outcome) }
 {
     let told = outcome?;
     Ok((told, advanced(advanced(rec, told), told)))
@@ -381,7 +381,7 @@ fn told_first(rec: Record, outcome: Result<Told, Cause>) -> Result<(Told, Record
 
 // The answer to a second half: it tells what call 3 tells, and call 4's numbers stand in the record.
 pub fn told_second(rec: Record, outcome: Result<Told, Cause>) -> Result<(Told, Record), Cause>
-    ensures { answer_of rec result ≡ told_second rec (reply_of outcome) }
+    ensures { answer_of rec result ≡ told_second rec (as_reply outcome) }
 {
     let told = outcome?;
     Ok((told, numbered(advanced(rec, told))))
@@ -405,7 +405,7 @@ fn told_piece(
     outcome: Result<Told, Cause>,
 ) -> Result<(Told, Record), Cause>
     requires { IfOk outcome (λ _. (rec.waiting ≤ 479) × (size ≤ 4096)) }
-    ensures { answer_of rec result ≡ told_piece rec size (reply_of outcome) }
+    ensures { answer_of rec result ≡ told_piece rec size (as_reply outcome) }
 {
     let told = outcome?;
     Ok((
@@ -421,7 +421,7 @@ fn told_resume(
     outcome: Result<Told, Cause>,
 ) -> Result<(Told, Record), Cause>
     requires { IfOk outcome (λ _. (rec.progress ≤ size) × (size ≤ 4096)) }
-    ensures { answer_of rec result ≡ told_resume rec size (reply_of outcome) }
+    ensures { answer_of rec result ≡ told_resume rec size (as_reply outcome) }
 {
     let told = outcome?;
     let next = numbered(advanced(rec, told));
@@ -433,7 +433,7 @@ fn told_resume(
 
 // The answer to an opening, once the model is read.
 fn opened(rec: Record, way: Way, read: Result<Model, Misread>) -> Result<(Told, Record), Cause>
-    ensures { answer_of rec result ≡ opened_of rec way (reading_of read) }
+    ensures { answer_of rec result ≡ opened_of rec way (model_read read) }
 {
     let m = read?;
     let hearing = Hearing {

@@ -1,7 +1,7 @@
 // model: what a file reads as, in numbers. A refusal r, 11 to 22, of layer l is r + 65,536 l; 5 is a wrong length.
 ghost use Rattle.std.specs.Prelude.{◌≡◌};
 ghost use Rattle.rules.specs.Leaf.{◌leaving◌};
-ghost use Rattle.rules.specs.Refusal.{number_of};
+ghost use Rattle.rules.specs.Refusal.{refusal_number};
 ghost use Rattle.model.specs.Model.{read_of};
 ghost use Rattle.model.specs.Array.{choice_of};
 ghost use Rattle.model.specs.Summary.{summary_of, array_told};
@@ -43,7 +43,7 @@ pub extern "C" fn tuppence_model_choose(trial: &[u8], house: &[u8]) -> u32
 // Refusal 7 of the others, with the number and the layer of a model that does not read.
 #[tactic(auto, using(model::proofs::Numbers::number_in_range))]
 pub(crate) fn seven(misread: Misread) -> u32
-    ensures { result ≡ seven_of (number_of misread.refusal) misread.layer }
+    ensures { result ≡ seven_of (refusal_number misread.refusal) misread.layer }
 {
     7 + 256 * misread.refusal.number() + 65536 * (misread.layer as u32)
 }

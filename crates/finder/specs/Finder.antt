@@ -3,8 +3,6 @@
 use Rattle.std.specs.Prelude.{◌-◌, Result, Ok, Err}
 use Rattle.rules.specs.Common.{ℕ, List, Float}
 use Rattle.rules.specs.F32.{f32}
-use Rattle.rules.specs.Refusal.{told}
-use Rattle.rules.specs.declared.refusal.Refusal.{Refusal}
 use Rattle.pitch.specs.Downsample.{downsampled}
 use Rattle.finder.specs.Doubling.{remove_doubling}
 use Rattle.finder.specs.Kept.{whole_lag}
@@ -18,15 +16,3 @@ process lastPeriod lastGain input = let buf = downsampled input in
 -- with a last period that may be any number
 abbrev pub find : Float → Float → List Float → Pitch
 find lastPeriod lastGain input = process (whole_lag lastPeriod) lastGain input
-
--- an answer's number, its period and its gain
-abbrev pub found_number : Result Pitch Refusal → ℕ
-found_number answer = told answer
-
-abbrev pub period_in : Result Pitch Refusal → ℕ
-period_in (Ok pitch) = pitch.period
-period_in (Err refusal) = 0
-
-abbrev pub gain_in : Result Pitch Refusal → Float
-gain_in (Ok pitch) = pitch.gain
-gain_in (Err refusal) = f32 0

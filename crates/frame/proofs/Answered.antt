@@ -11,19 +11,19 @@ use Rattle.network.specs.declared.Unfit.TheVariants.{BadLength, BadModel}
 use Rattle.frame.specs.Frame.{checked}
 use Rattle.frame.specs.Private.{IsModel}
 use Rattle.frame.specs.Reply.{passed, Done}
-use Rattle.frame.specs.Answer.{reply_told, reply_refused, reply_of, reply_of_test}
+use Rattle.frame.specs.Answer.{reply_told, reply_refused, as_reply, test_as_reply}
 use Rattle.frame.specs.declared.answer.Told.{Told}
 use Rattle.frame.specs.declared.answer.Told.TheVariants as told
 use Rattle.frame.specs.declared.answer.Cause.{Cause}
 use Rattle.frame.specs.declared.answer.Cause.TheVariants as cause
 
 -- the `?` behind a call that is refused
-pub passed_on : (r : Result Told Cause) (e : Cause) → IsErrAnd r (λ x. x ≡ e) → reply_of r ≡ reply_refused e
+pub passed_on : (r : Result Told Cause) (e : Cause) → IsErrAnd r (λ x. x ≡ e) → as_reply r ≡ reply_refused e
 passed_on (Ok told) e h = absurd h
 passed_on (Err why) e h = ap reply_refused h
 
 -- the same of a test
-pub tested_on : (r : Result Unit Cause) (e : Cause) → IsErrAnd r (λ x. x ≡ e) → reply_of_test r ≡ reply_refused e
+pub tested_on : (r : Result Unit Cause) (e : Cause) → IsErrAnd r (λ x. x ≡ e) → test_as_reply r ≡ reply_refused e
 tested_on (Ok done) e h = absurd h
 tested_on (Err why) e h = ap reply_refused h
 
@@ -38,7 +38,7 @@ told_lem (told.Heard voice energy) = refl
 told_lem (told.Numbered frames heard) = refl
 
 -- a call that is no refusal may be unwrapped
-pub done_lem : (r : Result Told Cause) → passed (reply_of r) ≡ true → IsOk r
+pub done_lem : (r : Result Told Cause) → passed (as_reply r) ≡ true → IsOk r
 done_lem (Ok told) e = refl
 done_lem (Err why) e = absurd (false≢true (sym (refused_lem why) ∙ e))
 

@@ -1,6 +1,6 @@
 -- The reply of an answer: what a call's result says in the words of specs/Reply, with the numbers of docs/REFUSALS.md.
 use Rattle.std.specs.Prelude.{Result, Ok, Err}
-use Rattle.rules.specs.Refusal.{number_of}
+use Rattle.rules.specs.Refusal.{refusal_number}
 use Rattle.frame.specs.Reply.{Reply, Done, Silent, Heard, Numbered, Refused, Misread}
 use Rattle.frame.specs.declared.answer.Told.{Told}
 use Rattle.frame.specs.declared.answer.Told.TheVariants as told
@@ -16,14 +16,14 @@ reply_told (told.Numbered frames heard) = Numbered frames heard
 
 -- Why a call is refused.
 abbrev pub reply_refused : Cause → Reply
-reply_refused (cause.Plain refusal) = Refused (number_of refusal)
-reply_refused (cause.Model misread) = Misread (number_of misread.refusal) misread.layer
+reply_refused (cause.Plain refusal) = Refused (refusal_number refusal)
+reply_refused (cause.Model misread) = Misread (refusal_number misread.refusal) misread.layer
 
-abbrev pub reply_of : Result Told Cause → Reply
-reply_of (Ok told) = reply_told told
-reply_of (Err why) = reply_refused why
+abbrev pub as_reply : Result Told Cause → Reply
+as_reply (Ok told) = reply_told told
+as_reply (Err why) = reply_refused why
 
 -- The same of a test, which tells no more than that nothing is refused.
-abbrev pub reply_of_test : Result Unit Cause → Reply
-reply_of_test (Ok _) = Done
-reply_of_test (Err why) = reply_refused why
+abbrev pub test_as_reply : Result Unit Cause → Reply
+test_as_reply (Ok _) = Done
+test_as_reply (Err why) = reply_refused why

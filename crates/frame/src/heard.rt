@@ -10,9 +10,9 @@ ghost use Rattle.frame.specs.Heard.{energies, featured, rnn_of, held_gains, spok
 ghost use Rattle.frame.specs.Effect.{Worked};
 ghost use Rattle.frame.specs.Frame.{done3, counted, checked};
 ghost use Rattle.frame.specs.Private.{IsModel, Reads, featured_as, rnn_as, spoken_as};
-ghost use Rattle.frame.specs.Answer.{reply_told, reply_of_test};
+ghost use Rattle.frame.specs.Answer.{reply_told, test_as_reply};
 
-use crate::{Cause, Hearing, Told};
+use crate::{Cause, Hearing, PART, Told};
 use rules::Refusal;
 
 // What a heard frame is lent besides its share and its spectrum.
@@ -31,7 +31,7 @@ struct Lent<'a> {
 // The model's test: refused with 7 if it does not read, and with 8 if it has other GRU sizes.
 #[tactic(auto, using(rules::proofs::Tests::tests), unfolding(crate::specs::Frame::checked))]
 pub fn check(model: &[u8], hearing: Hearing) -> Result<(), Cause>
-    ensures { reply_of_test result ≡ checked (counted hearing) (read_of model.now) }
+    ensures { test_as_reply result ≡ checked (counted hearing) (read_of model.now) }
 {
     let m = model::read(model)?;
     if m.vad_gru.neurons != hearing.vad
@@ -46,14 +46,14 @@ pub fn check(model: &[u8], hearing: Hearing) -> Result<(), Cause>
 // Computes the features and the correlations, and stores the new cepstrum. x and ex are those that the share
 // keeps.
 fn compute_features(
-    share: &mut [f32],
+    share: &mut [f32; PART],
     features: &mut [f32; 42],
     exp: &mut [f32; 22],
     index: usize,
-    x: &[f32],
+    x: &[f32; 961],
     lent: Lent,
 )
-    requires sizes { (length share.old ≡ 3778) × (index ≤ 7) }
+    requires inside { index ≤ 7 }
     requires as_kept { (x.now ≡ get kept_x share.old) × (lent.ex.now ≡ get kept_ex share.old) }
     ensures { featured_as share.new features.new exp.new
         ≡ featured share.old index lent.entry.p.now lent.entry.ep.now lent.entry.logs.now }
@@ -76,8 +76,12 @@ fn compute_features(
 }
 
 // Runs the network on the states in the share. Gives the gains and returns the voice.
-fn compute_rnn(share: &mut [f32], gains: &mut [f32; 22], model: &[u8], features: &[f32; 42]) -> f32
-    requires size { length share.old ≡ 3778 }
+fn compute_rnn(
+    share: &mut [f32; PART],
+    gains: &mut [f32; 22],
+    model: &[u8],
+    features: &[f32; 42],
+) -> f32
     requires reads { IsModel (read_of model.now) }
     ensures { Reads model.now
         (λ m. rnn_as share.new gains.new result
@@ -89,8 +93,7 @@ fn compute_rnn(share: &mut [f32], gains: &mut [f32; 22], model: &[u8], features:
 }
 
 #[tactic(auto, using(rules::proofs::Refusals::left))]
-fn apply(out: &mut [f32], gains: &[f32; 22])
-    requires { length out.old ≡ 961 }
+fn apply(out: &mut [f32; 961], gains: &[f32; 22])
     ensures { out.new ≡ applied out.old (band_gain gains.now) }
 {
     let mut gf = [0.0f32; 481];
@@ -99,8 +102,7 @@ fn apply(out: &mut [f32], gains: &[f32; 22])
 }
 
 // Raises the gains to 0.6 of the last ones, remembers them, and applies them.
-fn apply_gain(share: &mut [f32], out: &mut [f32], gains: &mut [f32; 22])
-    requires { (length share.old ≡ 3778) × (length out.old ≡ 961) }
+fn apply_gain(share: &mut [f32; PART], out: &mut [f32; 961], gains: &mut [f32; 22])
     ensures share_after { share.new
         ≡ put lastg share.old (held_gains share.old gains.old) }
     ensures out_after { out.new
@@ -113,13 +115,12 @@ fn apply_gain(share: &mut [f32], out: &mut [f32], gains: &mut [f32; 22])
 // The pitch filter, with the network's own gains; then the gains are raised, remembered and applied.
 #[tactic(auto, using(rules::proofs::Refusals::left))]
 fn filter_and_apply_gain(
-    share: &mut [f32],
-    out: &mut [f32],
+    share: &mut [f32; PART],
+    out: &mut [f32; 961],
     gains: &mut [f32; 22],
     exp: &[f32; 22],
     lent: Lent,
 )
-    requires { (length share.old ≡ 3778) × (length out.old ≡ 961) }
     ensures share_after { share.new
         ≡ put lastg share.old (held_gains share.old gains.old) }
     ensures out_after { out.new
@@ -135,8 +136,14 @@ fn filter_and_apply_gain(
 
 // A heard frame, from p and its energies on. `out` holds x and becomes the spectrum to be transformed back.
 // Returns the voice.
-fn process_heard(share: &mut [f32], out: &mut [f32], index: usize, lent: Lent, model: &[u8]) -> f32
-    requires sizes { (length share.old ≡ 3778) × (index ≤ 7) }
+fn process_heard(
+    share: &mut [f32; PART],
+    out: &mut [f32; 961],
+    index: usize,
+    lent: Lent,
+    model: &[u8],
+) -> f32
+    requires inside { index ≤ 7 }
     requires as_kept { (out.old ≡ get kept_x share.old) × (lent.ex.now ≡ get kept_ex share.old) }
     requires reads { IsModel (read_of model.now) }
     ensures { Reads model.now (λ m. spoken_as share.new result out.new
@@ -154,15 +161,15 @@ fn process_heard(share: &mut [f32], out: &mut [f32], index: usize, lent: Lent, m
 
 // A heard frame. `out` holds x and becomes the spectrum to be transformed back. Returns the voice.
 fn hear(
-    share: &mut [f32],
-    out: &mut [f32],
+    share: &mut [f32; PART],
+    out: &mut [f32; 961],
     index: usize,
-    spectrum: &[f32],
-    logs: &[f32],
+    spectrum: &[f32; 961],
+    logs: &[f32; 22],
     model: &[u8],
 ) -> f32
-    requires sizes { (length share.old ≡ 3778) × (out.old ≡ get kept_x share.old) × (index ≤ 7)
-        × (length spectrum.now ≡ 961) × (length logs.now ≡ 22) }
+    requires inside { index ≤ 7 }
+    requires as_kept { out.old ≡ get kept_x share.old }
     requires reads { IsModel (read_of model.now) }
     ensures { Reads model.now (λ m. spoken_as share.new result out.new
         ≡ spoken share.old index spectrum.now logs.now model.now m) }
@@ -176,22 +183,21 @@ fn hear(
         p: &p,
         ex: &ex,
         ep: &ep,
-        logs: logs.as_array().unwrap(),
+        logs,
     };
     process_heard(share, out, index, lent, model)
 }
 
 // Call 3 after its refusals: the frame is silent or heard, and the spectrum is written.
 pub(crate) fn listen(
-    share: &mut [f32],
-    out: &mut [f32],
+    share: &mut [f32; PART],
+    out: &mut [f32; 961],
     index: usize,
-    spectrum: &[f32],
-    logs: &[f32],
+    spectrum: &[f32; 961],
+    logs: &[f32; 22],
     model: &[u8],
 ) -> Told
-    requires sizes { (length share.old ≡ 3778) × (length out.old ≡ 961) × (index ≤ 7)
-        × (length spectrum.now ≡ 961) × (length logs.now ≡ 22) }
+    requires inside { index ≤ 7 }
     requires reads { IsModel (read_of model.now) }
     ensures { Reads model.now (λ m. Worked
         (done3 share.old index spectrum.now logs.now model.now m)

@@ -6,7 +6,7 @@ ghost use Rattle.std.specs.Prelude.{◌≡◌, [], ◌∷◌, length};
 ghost use Rattle.frame.specs.Effect.{Worked};
 ghost use Rattle.frame.specs.Frame.{call1, call2, call3, call4};
 ghost use Rattle.frame.specs.Reply.{one_more};
-ghost use Rattle.frame.specs.Answer.{reply_of};
+ghost use Rattle.frame.specs.Answer.{as_reply};
 
 mod answer;
 mod heard;
@@ -57,7 +57,7 @@ pub fn one_more(number: u32) -> u32
 #[tactic(auto, using(rules::proofs::Tests::tests), unfolding(crate::specs::Frame::call1))]
 pub fn call1(share: &mut [f32], samples: &[f32], window: &mut [f32]) -> Result<Told, Cause>
     ensures { Worked (call1 share.old samples.now (length window.old))
-        (reply_of result) share.new (window.old ∷ []) (window.new ∷ []) }
+        (as_reply result) share.new (window.old ∷ []) (window.new ∷ []) }
 {
     if share.len() != PART || samples.len() != 480 || window.len() != 960 {
         return Err(Cause::Plain(Refusal::WrongLength));
@@ -69,7 +69,12 @@ pub fn call1(share: &mut [f32], samples: &[f32], window: &mut [f32]) -> Result<T
         m0: share[3192],
         m1: share[3193],
     };
-    let next = input::take_in(&mut share[0..1728], memory, samples, window);
+    let next = input::take_in(
+        &mut share[0..1728],
+        memory,
+        samples.as_array().unwrap(),
+        window.as_mut_array().unwrap(),
+    );
     share[3192] = next.m0;
     share[3193] = next.m1;
     Ok(Told::Done)
@@ -87,7 +92,7 @@ pub fn call2(
     ensures { Worked
         (call2 share.old spectrum.now lag.0 (length window.old)
         (length sums.old))
-        (reply_of result) share.new (window.old ∷ sums.old ∷ [])
+        (as_reply result) share.new (window.old ∷ sums.old ∷ [])
         (window.new ∷ sums.new ∷ []) }
 {
     if share.len() != PART || spectrum.len() != 961 || window.len() != 960 || sums.len() != 22 {
@@ -99,7 +104,12 @@ pub fn call2(
     let back = lag.0;
     let from = 768 - back;
     bands::apply_window(window, &share[from..from + 960]).unwrap();
-    lagged::note(share, spectrum, Lag(back), sums);
+    lagged::note(
+        share.as_mut_array().unwrap(),
+        spectrum.as_array().unwrap(),
+        Lag(back),
+        sums.as_mut_array().unwrap(),
+    );
     Ok(Told::Done)
 }
 
@@ -117,7 +127,7 @@ pub fn call3(
     ensures { Worked
         (call3 share.old hearing
         spectrum.now logs.now model.now (length out.old))
-        (reply_of result) share.new (out.old ∷ []) (out.new ∷ []) }
+        (as_reply result) share.new (out.old ∷ []) (out.new ∷ []) }
 {
     if share.len() != PART
         || spectrum.len() != 961
@@ -128,18 +138,29 @@ pub fn call3(
         return Err(Cause::Plain(Refusal::WrongLength));
     }
     heard::check(model, hearing)?;
-    Ok(heard::listen(share, out, hearing.index, spectrum, logs, model))
+    Ok(heard::listen(
+        share.as_mut_array().unwrap(),
+        out.as_mut_array().unwrap(),
+        hearing.index,
+        spectrum.as_array().unwrap(),
+        logs.as_array().unwrap(),
+        model,
+    ))
 }
 
 // Call 4: 960 inverse samples in, 480 numbers written.
 #[tactic(auto, using(rules::proofs::Tests::tests), unfolding(crate::specs::Frame::call4))]
 pub fn call4(share: &mut [f32], inverse: &[f32], out: &mut [f32]) -> Result<Told, Cause>
     ensures { Worked (call4 share.old inverse.now (length out.old))
-        (reply_of result) share.new (out.old ∷ []) (out.new ∷ []) }
+        (as_reply result) share.new (out.old ∷ []) (out.new ∷ []) }
 {
     if share.len() != PART || inverse.len() != 960 || out.len() != 480 {
         return Err(Cause::Plain(Refusal::WrongLength));
     }
-    output::synthesise(&mut share[1728..2208], inverse, out);
+    output::synthesise(
+        &mut share[1728..2208],
+        inverse.as_array().unwrap(),
+        out.as_mut_array().unwrap(),
+    );
     Ok(Told::Done)
 }

@@ -1,6 +1,6 @@
 // The first half of a frame: call 1, the forward transform of its window, and call 2 with the lag.
 ghost use Rattle.std.specs.Prelude.{[], ◌∷◌, ◌≡◌, length};
-ghost use Rattle.frame.specs.Answer.{reply_of};
+ghost use Rattle.frame.specs.Answer.{as_reply};
 ghost use Rattle.frame.specs.Effect.{Worked};
 ghost use Rattle.halves.specs.Halves.{analysed, first_half};
 
@@ -11,7 +11,7 @@ use rules::Refusal;
 fn analyse(share: &mut [f32], way: Way, window: &mut [f32], sums: &mut [f32]) -> Result<Told, Cause>
     requires { (length share.old ≡ 3778) × (length window.old ≡ 960) × (length sums.old ≡ 22) }
     ensures { Worked (analysed share.old way window.old (length sums.old))
-        (reply_of result) share.new (sums.old ∷ []) (sums.new ∷ []) }
+        (as_reply result) share.new (sums.old ∷ []) (sums.new ∷ []) }
 {
     let mut spectrum = [0.0f32; 961];
     crate::ways::forward(&mut spectrum, window, way);
@@ -28,7 +28,7 @@ pub fn first_half(
     sums: &mut [f32],
 ) -> Result<Told, Cause>
     ensures { Worked (first_half share.old way samples.now (length sums.old))
-        (reply_of result) share.new (sums.old ∷ []) (sums.new ∷ []) }
+        (as_reply result) share.new (sums.old ∷ []) (sums.new ∷ []) }
 {
     if share.len() != PART || samples.len() != 480 || sums.len() != 22 {
         return Err(Cause::Plain(Refusal::WrongLength));

@@ -1,6 +1,6 @@
 // The sister of call 2. It is given no lag, and finds its own in the share's `input_mem` (request 04).
 ghost use Rattle.std.specs.Prelude.{[], ◌∷◌, length};
-ghost use Rattle.frame.specs.Answer.{reply_of};
+ghost use Rattle.frame.specs.Answer.{as_reply};
 ghost use Rattle.frame.specs.Effect.{Worked};
 ghost use Rattle.halves.specs.Own.{call2_own};
 
@@ -18,7 +18,7 @@ pub fn call2_own(
     ensures { Worked
         (call2_own share.old spectrum.now (length window.old)
         (length sums.old))
-        (reply_of result) share.new (window.old ∷ sums.old ∷ [])
+        (as_reply result) share.new (window.old ∷ sums.old ∷ [])
         (window.new ∷ sums.new ∷ []) }
 {
     if share.len() != frame::PART {

@@ -1,7 +1,7 @@
 // The second half of a frame: call 3 with the spectrum of the window that call 2 gave, and call 4 with the inverse of
 // what call 3 wrote.
 ghost use Rattle.std.specs.Prelude.{[], ◌∷◌, ◌≡◌, length};
-ghost use Rattle.frame.specs.Answer.{reply_of};
+ghost use Rattle.frame.specs.Answer.{as_reply};
 ghost use Rattle.frame.specs.Effect.{Worked};
 ghost use Rattle.frame.specs.Reply.{Done};
 ghost use Rattle.frame.specs.Frame.{call4};
@@ -47,7 +47,7 @@ pub fn second_half(
 ) -> Result<Told, Cause>
     ensures { Worked
         (second_half share.old hearing logs.now model.now (length out.old))
-        (reply_of result) share.new (out.old ∷ []) (out.new ∷ []) }
+        (as_reply result) share.new (out.old ∷ []) (out.new ∷ []) }
 {
     if share.len() != PART || logs.len() != 22 || out.len() != 480 || hearing.index > 7 {
         return Err(Cause::Plain(Refusal::WrongLength));

@@ -3,8 +3,6 @@
 use Rattle.std.specs.Prelude.{◌-◌, ◌*◌, Result, Ok, Err}
 use Rattle.rules.specs.Common.{ℕ, List, Float}
 use Rattle.rules.specs.F32.{part}
-use Rattle.rules.specs.Refusal.{told}
-use Rattle.rules.specs.declared.refusal.Refusal.{Refusal}
 use Rattle.pitch.specs.Xcorr.{pitch_xcorr}
 use Rattle.pitch_search.specs.Best.{best_of, first_of}
 use Rattle.pitch.specs.Downsample.{downsampled}
@@ -20,12 +18,3 @@ first_pitch low = first_of (best_of (correlations low) low 480)
 -- The lag in samples at the full rate. An offset is counted from the oldest number, and each offset is two samples.
 unfoldable pub own_lag : List Float → ℕ
 own_lag mem = 768 - 2 * first_pitch (downsampled mem)
-
--- The number that a host is told: 0, or the number of the refusal.
-abbrev pub own_number : Result ℕ Refusal → ℕ
-own_number answer = told answer
-
--- The lag in an answer, or 0 if it was refused.
-abbrev pub lag_in : Result ℕ Refusal → ℕ
-lag_in (Ok lag) = lag
-lag_in (Err refusal) = 0

@@ -1,7 +1,7 @@
 -- Of the numbers of refusals: none is 0, and none is above 71. Assumes nothing.
 use Rattle.std.specs.Prelude.{◌≤◌, ◌≡◌}
 use native.Mathlib.Omega.{arith}
-use Rattle.rules.specs.Refusal.{number_of}
+use Rattle.rules.specs.Refusal.{refusal_number}
 use Rattle.rules.specs.declared.refusal.Refusal.{Refusal}
 use Rattle.model.specs.declared.Misread.{Misread}
 use Rattle.model.specs.Summary.{layer_number}
@@ -20,7 +20,7 @@ use Rattle.rules.specs.declared.refusal.Refusal.TheVariants.{RecordingRecords, R
 use Rattle.rules.specs.declared.refusal.Refusal.TheVariants.{RecorderTooLong, RecorderRecords, RecorderSize}
 use Rattle.rules.specs.declared.refusal.Refusal.TheVariants.{RecorderFrames, RecorderNoCut}
 
-pub number_in_range : (r : Refusal) → (1 ≤ number_of r) × (number_of r ≤ 71)
+pub number_in_range : (r : Refusal) → (1 ≤ refusal_number r) × (refusal_number r ≤ 71)
 number_in_range NoSuchSide = omega arith
 number_in_range OutOfRange = omega arith
 number_in_range Closed = omega arith

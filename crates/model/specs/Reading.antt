@@ -1,7 +1,7 @@
 -- What reading a file gives, with the numbers of docs/REFUSALS.md.
 use Rattle.std.specs.Prelude.{Result, Ok, Err}
 use Rattle.rules.specs.Common.{ℕ}
-use Rattle.rules.specs.Refusal.{number_of}
+use Rattle.rules.specs.Refusal.{refusal_number}
 use Rattle.model.specs.declared.Model.{Model}
 use Rattle.model.specs.declared.Misread.{Misread}
 
@@ -11,6 +11,6 @@ pub data Reading : Type 0 where
   Refused : ℕ → ℕ → Reading
 
 -- What the code answers, as a reading.
-abbrev pub reading_of : Result Model Misread → Reading
-reading_of (Ok m) = Good m
-reading_of (Err e) = Refused (number_of e.refusal) e.layer
+abbrev pub model_read : Result Model Misread → Reading
+model_read (Ok m) = Good m
+model_read (Err e) = Refused (refusal_number e.refusal) e.layer

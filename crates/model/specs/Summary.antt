@@ -2,7 +2,7 @@
 use Rattle.std.specs.Prelude.{Result, Ok, Err, ◌+◌, ◌*◌, ◌/◌, ◌%◌, ◌∷◌}
 use Rattle.rules.specs.Common.{ℕ, List, [], length, get_or}
 use Rattle.rules.specs.Leaf.{◌leaving◌}
-use Rattle.rules.specs.Refusal.{number_of}
+use Rattle.rules.specs.Refusal.{refusal_number}
 use Rattle.rules.specs.Refusals.{◌when◌, refusing}
 use Rattle.rules.specs.Tab.{tab}
 use Rattle.model.specs.Model.{◌≠◌, read_of}
@@ -12,7 +12,7 @@ use Rattle.model.specs.declared.Misread.{Misread}
 
 -- Refusal r of layer l has the number r + 65,536 l.
 abbrev pub layer_number : Misread → ℕ
-layer_number e = number_of e.refusal + 65536 * e.layer
+layer_number e = refusal_number e.refusal + 65536 * e.layer
 
 -- What a host is told of an outcome: 0 if it is done, and else the number of its refusal with its layer.
 abbrev pub layer_told : Result Unit Misread → ℕ

@@ -1,7 +1,7 @@
 -- What a call for a frame answers, with the numbers of docs/REFUSALS.md.
 use Rattle.std.specs.Prelude.{Result, Ok, Err}
 use Rattle.rules.specs.Common.{ℕ}
-use Rattle.rules.specs.Refusal.{number_of}
+use Rattle.rules.specs.Refusal.{refusal_number}
 use Rattle.network.specs.declared.Unfit.{Unfit}
 use Rattle.network.specs.declared.Unfit.TheVariants.{BadLength, BadModel}
 
@@ -15,4 +15,4 @@ pub data Computed : Type 0 where
 abbrev pub computed_of : Result Unit Unfit → Computed
 computed_of (Ok _) = Done
 computed_of (Err BadLength) = Refused 5
-computed_of (Err (BadModel e)) = Misread (number_of e.refusal) e.layer
+computed_of (Err (BadModel e)) = Misread (refusal_number e.refusal) e.layer

@@ -1,5 +1,5 @@
-// The numbers of util.rs, and what they need of IEEE 754. Each function has a result for every input, and its contract is
-// an equation with a definition of `specs/`.
+// The numbers of util.rs, and what they need of IEEE 754. Each function has a result for every input, and its contract
+// is an equation with a definition of `specs/`.
 //     max, min, clamp, relu            two numbers compared
 //     tansig_approx, sigmoid_approx    the activations
 //     lists                            the activations of each number of a list, over a table that is lent

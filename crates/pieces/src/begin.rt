@@ -1,6 +1,6 @@
 // A piece: its samples wait after those that wait already, or 480 of them all begin its first frame.
 ghost use Rattle.std.specs.Prelude.{◌≡◌, [], ◌∷◌, length};
-ghost use Rattle.frame.specs.Answer.{reply_of, reply_of_test};
+ghost use Rattle.frame.specs.Answer.{as_reply, test_as_reply};
 ghost use Rattle.frame.specs.Effect.{Worked};
 ghost use Rattle.pieces.specs.Pieces.{piece_fits, piece};
 ghost use Rattle.pieces.specs.Private.{piece_reply};
@@ -29,7 +29,7 @@ fn piece_tests(
     out: usize,
     sums: usize,
 ) -> Result<(), Cause>
-    ensures { reply_of_test result ≡ piece_reply share.now waiting samples.now out sums }
+    ensures { test_as_reply result ≡ piece_reply share.now waiting samples.now out sums }
 {
     if share.len() != frame::SHARE || !piece_fits(waiting, samples.len(), out, sums) {
         return Err(Cause::Plain(Refusal::WrongLength));
@@ -53,7 +53,7 @@ pub fn piece(
     ensures { Worked
         (piece share.old way waiting samples.now (length out.old)
         (length sums.old))
-        (reply_of result) share.new (out.old ∷ sums.old ∷ []) (out.new ∷ sums.new ∷ []) }
+        (as_reply result) share.new (out.old ∷ sums.old ∷ []) (out.new ∷ sums.new ∷ []) }
 {
     piece_tests(share, waiting, samples, out.len(), sums.len())?;
     let mut first = [0.0f32; 480];

@@ -4,7 +4,7 @@ ghost use Rattle.frame.specs.Written.{nothing};
 ghost use Rattle.samples.specs.Samples.{good};
 ghost use Rattle.model.specs.Model.{read_of};
 ghost use Rattle.frame.specs.Reply.{Done};
-ghost use Rattle.frame.specs.Answer.{reply_of, reply_of_test};
+ghost use Rattle.frame.specs.Answer.{as_reply, test_as_reply};
 ghost use Rattle.frame.specs.Effect.{Worked};
 ghost use Rattle.frame.specs.Reply.{◌refusedIf◌, first_refusal};
 ghost use Rattle.frame.specs.Frame.{counted, checked};
@@ -47,7 +47,7 @@ fn resume_fits(
 
 // The tests after the lengths: refusals 7 to 9.
 pub fn last_tests(hearing: Hearing, model: &[u8], fine: bool) -> Result<(), Cause>
-    ensures { reply_of_test result ≡ first_refusal
+    ensures { test_as_reply result ≡ first_refusal
         (checked (counted hearing) (read_of model.now) ∷ 9 refusedIf not fine ∷ []) }
 {
     frame::check(model, hearing)?;
@@ -70,7 +70,7 @@ fn resume_tests(
     out: usize,
     sums: usize,
 ) -> Result<(), Cause>
-    ensures { reply_of_test result
+    ensures { test_as_reply result
         ≡ resume_reply share.now hearing piece progress
         samples.now logs.now model.now out sums }
 {
@@ -123,7 +123,7 @@ pub fn resume(
         (resume share.old hearing piece progress
         samples.now logs.now model.now (length out.old)
         (length sums.old))
-        (reply_of result) share.new (out.old ∷ sums.old ∷ []) (out.new ∷ sums.new ∷ []) }
+        (as_reply result) share.new (out.old ∷ sums.old ∷ []) (out.new ∷ sums.new ∷ []) }
 {
     resume_tests(
         share,

@@ -3,7 +3,6 @@ use Rattle.std.specs.Prelude.{◌+◌, ◌≤◌, Result, Ok, Err}
 use Rattle.rules.specs.Common.{ℕ, cond, List, length, Float, lt, neg}
 use Rattle.rules.specs.Loop.{loop}
 use Rattle.rules.specs.F32.{◌⊕◌, ◌⊖◌, ◌⊗◌, at, f32, one}
-use Rattle.rules.specs.Refusal.{told}
 use Rattle.rules.specs.declared.refusal.Refusal.{Refusal}
 use Rattle.numbers.specs.Larger.{larger}
 use Rattle.pitch_search.specs.declared.Pitches.{Pitches}
@@ -63,10 +62,6 @@ best xcorr ys len =
 abbrev pub best_of : List Float → List Float → ℕ → Result Pitches Refusal
 best_of xcorr ys len =
     let s = best xcorr ys len in Ok (record { first = s.best_pitch; second = s.second_best_pitch })
-
--- The number that a host is told: 0, or the number of the refusal.
-abbrev pub pitches_number : Result Pitches Refusal → ℕ
-pitches_number answer = told answer
 
 -- The best lag in an answer, or 0 if it was refused.
 abbrev pub first_of : Result Pitches Refusal → ℕ

@@ -11,21 +11,9 @@ use lib.Seq.{take_all}
 use Rattle.rules.specs.Leaf.{◌leaving◌}
 use Rattle.rules.specs.Refusals.{Row, refusing}
 use Rattle.rules.proofs.Refusals.{leaves, leave_both, clear, cleared, due, above}
-use Rattle.rules.specs.Refusal.{number_of, told}
+use Rattle.rules.proofs.Numbered.{never_0}
+use Rattle.rules.specs.Refusal.{refusal_number, told}
 use Rattle.rules.specs.declared.refusal.Refusal.{Refusal}
-use Rattle.rules.specs.declared.refusal.Refusal.TheVariants.{NoSuchSide, OutOfRange, Closed, NotDue, WrongLength}
-use Rattle.rules.specs.declared.refusal.Refusal.TheVariants.{LagTooLarge, OtherCounts, BadSample, ModelNoHeader}
-use Rattle.rules.specs.declared.refusal.Refusal.TheVariants.{ModelInputs, ModelNeurons, ModelActivation, ModelNoNeurons}
-use Rattle.rules.specs.declared.refusal.Refusal.TheVariants.{ModelArray, ModelBytesLeft, ModelEnds, ModelVadGru}
-use Rattle.rules.specs.declared.refusal.Refusal.TheVariants.{ModelNoiseGru, ModelDenoiseGru, ModelDenoiseOutput}
-use Rattle.rules.specs.declared.refusal.Refusal.TheVariants.{ModelNoRoom, SheetShort, SheetDistance, SheetSide}
-use Rattle.rules.specs.declared.refusal.Refusal.TheVariants.{SheetRecord, SheetSum, SheetNoRoom, MendPlace, MendNothing}
-use Rattle.rules.specs.declared.refusal.Refusal.TheVariants.{WavNoRiff, WavEnds, WavNoFormat, WavShortFormat, WavFormat}
-use Rattle.rules.specs.declared.refusal.Refusal.TheVariants.{WavChannels, WavBlock, SealNone, SealChecksum, SealSide}
-use Rattle.rules.specs.declared.refusal.Refusal.TheVariants.{RecordingHead, RecordingAudio, RecordingSeal}
-use Rattle.rules.specs.declared.refusal.Refusal.TheVariants.{RecordingRecords, RecordingTrailer, RecordingLonger}
-use Rattle.rules.specs.declared.refusal.Refusal.TheVariants.{RecorderTooLong, RecorderRecords, RecorderSize}
-use Rattle.rules.specs.declared.refusal.Refusal.TheVariants.{RecorderFrames, RecorderNoCut}
 use Rattle.rules.proofs.Tests.{neither}
 use Rattle.recorder.specs.Recorder.{skip_of, room_of, belonging, start_of}
 use Rattle.recorder.specs.Recorder.{with_feed, more_rows, LONGEST, FRAMES, closing_of, close_rows}
@@ -91,62 +79,10 @@ small_in ns e = rw e (omega arith)
 
 -- ---- a table of refusals, by the number that a host is told
 
-above_0 : (x : Refusal) → number_of x ≡ 0 → ⊥
-above_0 NoSuchSide e = omega arith
-above_0 OutOfRange e = omega arith
-above_0 Closed e = omega arith
-above_0 NotDue e = omega arith
-above_0 WrongLength e = omega arith
-above_0 LagTooLarge e = omega arith
-above_0 OtherCounts e = omega arith
-above_0 BadSample e = omega arith
-above_0 ModelNoHeader e = omega arith
-above_0 ModelInputs e = omega arith
-above_0 ModelNeurons e = omega arith
-above_0 ModelActivation e = omega arith
-above_0 ModelNoNeurons e = omega arith
-above_0 ModelArray e = omega arith
-above_0 ModelBytesLeft e = omega arith
-above_0 ModelEnds e = omega arith
-above_0 ModelVadGru e = omega arith
-above_0 ModelNoiseGru e = omega arith
-above_0 ModelDenoiseGru e = omega arith
-above_0 ModelDenoiseOutput e = omega arith
-above_0 ModelNoRoom e = omega arith
-above_0 SheetShort e = omega arith
-above_0 SheetDistance e = omega arith
-above_0 SheetSide e = omega arith
-above_0 SheetRecord e = omega arith
-above_0 SheetSum e = omega arith
-above_0 SheetNoRoom e = omega arith
-above_0 MendPlace e = omega arith
-above_0 MendNothing e = omega arith
-above_0 WavNoRiff e = omega arith
-above_0 WavEnds e = omega arith
-above_0 WavNoFormat e = omega arith
-above_0 WavShortFormat e = omega arith
-above_0 WavFormat e = omega arith
-above_0 WavChannels e = omega arith
-above_0 WavBlock e = omega arith
-above_0 SealNone e = omega arith
-above_0 SealChecksum e = omega arith
-above_0 SealSide e = omega arith
-above_0 RecordingHead e = omega arith
-above_0 RecordingAudio e = omega arith
-above_0 RecordingSeal e = omega arith
-above_0 RecordingRecords e = omega arith
-above_0 RecordingTrailer e = omega arith
-above_0 RecordingLonger e = omega arith
-above_0 RecorderTooLong e = omega arith
-above_0 RecorderRecords e = omega arith
-above_0 RecorderSize e = omega arith
-above_0 RecorderFrames e = omega arith
-above_0 RecorderNoCut e = omega arith
-
 module _ {A : Type 0} (refuse : ℕ → A) (right : A) (rows : List Row) {r : Result (Unit {0}) Refusal}
     (tried : told r ≡ refusing rows (λ n. n) 0) where
-  pub refused_with : {x : Refusal} → r ≡ Err x → refuse (number_of x) ≡ refusing rows refuse right
-  refused_with {x} e = sym (due refuse right rows (sym (ap told e) ∙ tried) (above_0 x))
+  pub refused_with : {x : Refusal} → r ≡ Err x → refuse (refusal_number x) ≡ refusing rows refuse right
+  refused_with {x} e = sym (due refuse right rows (sym (ap told e) ∙ tried) (never_0 x))
 
   pub passed_by : T (above rows) → {u : Unit {0}} → r ≡ Ok u → right ≡ refusing rows refuse right
   passed_by a e = sym (clear refuse right rows (cleared rows a (sym tried ∙ ap told e)))
@@ -171,7 +107,7 @@ module _ (taken : ℕ) (cleaned records ns out : List ℕ) (eight : length ns �
     {r : Recorder} (rs : r ≡ recorder_in ns) {t : Result (Unit {0}) Refusal}
     (tried : told t ≡ refusing (more_rows r taken cleaned records) (λ n. n) 0) where
   pub more_refused : {x : Refusal} → t ≡ Err x
-      → (number_of x leaving ns leaving out) ≡ more_laid taken cleaned records ns out
+      → (refusal_number x leaving ns leaving out) ≡ more_laid taken cleaned records ns out
   unfolding more_laid
   more_refused e =
       rw (eq-eqb (length ns) 8 eight, eq-eqb (length out) 2 two, ← rs)
@@ -195,7 +131,7 @@ closing_done ns out one eight rs ms a =
 
 module _ (began : ℕ) (ns : List ℕ) (eight : length ns ≡ 8) {r : Recorder} (rs : r ≡ recorder_in ns)
     {t : Result (Unit {0}) Refusal} (tried : told t ≡ refusing (next_rows r) (λ n. n) 0) where
-  pub next_refused : {x : Refusal} → t ≡ Err x → (number_of x leaving ns) ≡ next_laid began ns
+  pub next_refused : {x : Refusal} → t ≡ Err x → (refusal_number x leaving ns) ≡ next_laid began ns
   unfolding next_laid
   next_refused e =
       rw (eq-eqb (length ns) 8 eight, ← rs) (refused_with (λ k. k leaving ns) _ (next_rows r) tried e)
@@ -211,7 +147,7 @@ module _ (ns head chunk trailer : List ℕ) (eight : length ns ≡ 8) (room : le
     (between : length chunk ≡ 32) (last : length trailer ≡ 16) {r : Recorder} (rs : r ≡ recorder_in ns)
     {t : Result (Unit {0}) Refusal} (tried : told t ≡ refusing (close_rows r) (λ n. n) 0) where
   pub finish_refused : {x : Refusal} → t ≡ Err x
-      → (number_of x leaving head leaving chunk leaving trailer) ≡ finish_laid ns head chunk trailer
+      → (refusal_number x leaving head leaving chunk leaving trailer) ≡ finish_laid ns head chunk trailer
   unfolding finish_laid
   finish_refused e =
       rw (

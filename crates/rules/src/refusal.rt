@@ -1,6 +1,6 @@
 // What a call is refused for. docs/REFUSALS.md says exactly when; it has the same names and numbers.
 ghost use Rattle.std.specs.Prelude.{◌≡◌};
-ghost use Rattle.rules.specs.Refusal.{number_of, told};
+ghost use Rattle.rules.specs.Refusal.{refusal_number, told};
 
 // Each refusal has its number in that page, which is what a host is told.
 #[derive(Clone, Copy, Debug, PartialEq, Eq)]
@@ -66,7 +66,7 @@ pub enum Refusal {
 
 impl Refusal {
     pub fn number(self) -> u32
-        ensures { result ≡ number_of self }
+        ensures { result ≡ refusal_number self }
     {
         self as u32
     }

@@ -5,7 +5,7 @@ use Rattle.rules.specs.Common.{length, get_or, take, drop}
 use Rattle.rules.specs.Lists.{sum}
 use Rattle.rules.specs.Refusals.{Row, ◌when◌, refusing}
 use Rattle.sheet.specs.Sheet.{Sheet}
-use Rattle.rules.specs.Refusal.{number_of}
+use Rattle.rules.specs.Refusal.{refusal_number}
 use Rattle.rules.specs.declared.refusal.Refusal.{Refusal}
 use Rattle.sheet.specs.declared.Found.{Found}
 
@@ -91,7 +91,7 @@ pub data Reading : Type 0 where
 -- What a reader's answer says.
 abbrev pub read_as : Result Found Refusal → Reading
 read_as (Ok found) = Good found.start found.records found.side
-read_as (Err refusal) = Refused (number_of refusal)
+read_as (Err refusal) = Refused (refusal_number refusal)
 
 -- What a reader is told: where the records start, how many there are, and the side.
 abbrev pub reading_of : End → Reading

@@ -4,21 +4,20 @@
 --     frame-asks, take-asks    a frame and a take
 -- Assumes nothing.
 use Rattle.std.specs.Prelude.{◌*◌, ◌≤◌, ◌&&◌, ◌||◌, ◌∷◌, ◌++◌, ◌≡◌}
-use Rattle.rules.proofs.Common.{ℕ, Bool, true, false, cond, not, true≢false, false≢true, List, []}
+use Rattle.rules.proofs.Common.{ℕ, Bool, true, false, cond, not, List, []}
 use Rattle.rules.proofs.Common.{refl, sym, ap, ◌∙◌}
 use Rattle.rules.proofs.Common.{eqb, leb, ltb, length, Float}
 use native.Mathlib.Omega.{arith}
-use borrow.Author.Tests.{eq-eqb, eqb-true, eqb-false, le-ltb, ltb-true, leb-true}
+use borrow.Author.Tests.{eq-eqb, eqb-true, le-ltb, ltb-true, leb-true}
 use Rattle.rules.specs.Place.{get}
 use Rattle.rules.proofs.Places.{length_get}
 use Rattle.rules.proofs.Tests.{both}
 use Rattle.samples.specs.Samples.{good}
 use Rattle.model.specs.Model.{read_of}
-use Rattle.model.specs.declared.Model.{Model}
 use Rattle.model.specs.Reading.{Reading, Good, Refused as Unread}
 use Rattle.features.specs.Silence.{energy, is_silent}
 use Rattle.frame.specs.declared.Hearing.{Hearing}
-use Rattle.frame.specs.Reply.{Reply, Done, Refused, Misread, passed, ◌refusedIf◌, first_refusal}
+use Rattle.frame.specs.Reply.{Reply, Done, Refused, passed, ◌refusedIf◌, first_refusal}
 use Rattle.frame.specs.declared.Way.{Way}
 use Rattle.frame.specs.Effect.{Effect, refusal, unless}
 use Rattle.frame.specs.Heard.{Spoken, spoken}

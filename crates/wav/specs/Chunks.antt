@@ -4,7 +4,7 @@ use Rattle.std.specs.Prelude.{Result, Ok, Err, ◌+◌, ◌*◌, ◌/◌, ◌%�
 use Rattle.rules.specs.Common.{ℕ, min, cond, not, List, [], eqb, ltb, length}
 use Rattle.rules.specs.Common.{get_or, drop}
 use Rattle.rules.specs.Leaf.{◌leaving◌}
-use Rattle.rules.specs.Refusal.{number_of}
+use Rattle.rules.specs.Refusal.{refusal_number}
 use Rattle.rules.specs.declared.refusal.Refusal.{Refusal}
 use Rattle.rules.specs.Refusals.{Row, ◌when◌, refusing}
 use Rattle.sheet.specs.End.{from_four}
@@ -122,16 +122,16 @@ step_with More h = On h
 
 abbrev pub step_as : Result (Next × Head) Refusal → Step
 step_as (Ok found) = step_with found.0 found.1
-step_as (Err refusal) = Refused (number_of refusal)
+step_as (Err refusal) = Refused (refusal_number refusal)
 
 -- The number of an outcome: 0 if the audio was found, 40 if the host should call again.
 abbrev pub next_number : Next → ℕ
 next_number Found = 0
 next_number More = 40
 
-abbrev pub told : Result Next Refusal → ℕ
-told (Ok next) = next_number next
-told (Err refusal) = number_of refusal
+abbrev pub next_told : Result Next Refusal → ℕ
+next_told (Ok next) = next_number next
+next_told (Err refusal) = refusal_number refusal
 
 -- Where a reading is, as the numbers that a host keeps.
 abbrev pub head_from : List ℕ → Head

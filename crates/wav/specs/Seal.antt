@@ -3,7 +3,7 @@
 use Rattle.std.specs.Prelude.{Option, Some, None, Result, Ok, Err, ◌+◌, ◌*◌, ◌/◌, ◌||◌, ◌∷◌, ◌++◌}
 use Rattle.rules.specs.Common.{ℕ, not, List, [], eqb, ltb, length, take, drop}
 use Rattle.rules.specs.Leaf.{◌leaving◌}
-use Rattle.rules.specs.Refusal.{number_of as refusal_number}
+use Rattle.rules.specs.Refusal.{refusal_number}
 use Rattle.rules.specs.declared.refusal.Refusal.{Refusal}
 use Rattle.rules.specs.Refusals.{Row, ◌when◌, refusing}
 use Rattle.checksum.specs.Checksum.{crc32}

@@ -2,7 +2,7 @@
 ghost use Rattle.std.specs.Prelude.{◌≡◌, ◌+◌, ◌≤◌, ◌<◌, ◌^◌, length};
 ghost use Rattle.rules.specs.Leaf.{◌leaving◌};
 ghost use Rattle.wav.specs.Chunks.{tag_in, format_of, front_of, past_chunk, formatted, chunk_of, step_of, head_numbers};
-ghost use Rattle.wav.specs.Chunks.{step_as, told, step_told};
+ghost use Rattle.wav.specs.Chunks.{step_as, next_told, step_told};
 
 use crate::bytes;
 use rules::Refusal;
@@ -39,7 +39,7 @@ pub enum Next {
 // The number that a host is told: 0 if the audio was found, 40 if the bytes from the place on are wanted, and else the
 // number of the refusal.
 pub fn told(outcome: Result<Next, Refusal>) -> u32
-    ensures { result ≡ told outcome }
+    ensures { result ≡ next_told outcome }
 {
     match outcome {
         Ok(Next::Found) => 0,
@@ -211,7 +211,7 @@ fn tell(numbers: &mut [u64], head: Head)
 // For a host: the next step of a reading, in numbers: place, format, channels, rate and size, all 0 at first. A buffer
 // of other than five numbers is refused as of a wrong length.
 pub fn read(numbers: &mut [u64], file: &[u8]) -> Result<Next, Refusal>
-    ensures { (told result leaving numbers.new) ≡ step_told file.now numbers.old }
+    ensures { (next_told result leaving numbers.new) ≡ step_told file.now numbers.old }
 {
     if numbers.len() != 5 {
         return Err(Refusal::WrongLength);

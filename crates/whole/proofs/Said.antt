@@ -77,7 +77,8 @@ module _ (rec : Record) (share samples : List Float) (model : List ℕ) (fit : F
   pub first_fits : {reply : Reply} → reply ≡ (first_half (get frame_part share) rec.hearing.way samples 22).answer
       → passed reply ≡ true
   first_fits e =
-      ap passed e ∙ (first_passes (get frame_part share) rec.hearing.way samples (part_length share fit.whole) k g).passes
+      let h = first_passes (get frame_part share) rec.hearing.way samples (part_length share fit.whole) k g in
+      ap passed e ∙ h.passes
 
   pub second_fits : (logs : List Float) {r₁ reply : Reply} {z sums part₁ part₂ out out' : List Float}
       → Worked (first_half (get frame_part share) rec.hearing.way samples 22) r₁ part₁ (z ∷ []) (sums ∷ [])

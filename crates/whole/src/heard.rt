@@ -2,7 +2,7 @@
 ghost use Rattle.std.specs.Prelude.{◌≡◌, [], ◌∷◌, ◌+◌, ◌*◌, ◌≤◌, length};
 ghost use Rattle.rules.specs.F32.{zeros};
 ghost use Rattle.frame.specs.Written.{from, over};
-ghost use Rattle.frame.specs.Answer.{reply_of, reply_told};
+ghost use Rattle.frame.specs.Answer.{as_reply, reply_told};
 ghost use Rattle.desk.specs.Surface.{heard_of};
 
 use frame::{Cause, Told};
@@ -25,7 +25,7 @@ fn none() -> Three
 }
 
 pub fn three_of(outcome: Result<Told, Cause>) -> Three
-    ensures { result.heard ∷ result.voice ∷ result.energy ∷ [] ≡ heard_of (reply_of outcome) }
+    ensures { result.heard ∷ result.voice ∷ result.energy ∷ [] ≡ heard_of (as_reply outcome) }
 {
     match outcome {
         Ok(Told::Heard { voice, energy }) => Three {

@@ -2,7 +2,7 @@
 ghost use Rattle.std.specs.Prelude.{◌≡◌, ◌++◌, ◌*◌, ◌≤◌, ◌<◌, length};
 ghost use Rattle.rules.specs.Place.{get};
 ghost use Rattle.samples.specs.Samples.{good};
-ghost use Rattle.frame.specs.Answer.{reply_of_test};
+ghost use Rattle.frame.specs.Answer.{test_as_reply};
 ghost use Rattle.frame.specs.Share.{SHARE};
 ghost use Rattle.pieces.specs.Pieces.{waiting_in};
 ghost use Rattle.desk.specs.Gate.{BENCHES, share_of};
@@ -21,7 +21,7 @@ pub(crate) fn frame_reply(
     model: &[u8],
     out: usize,
 ) -> Result<(), Cause>
-    ensures { reply_of_test result ≡ frame_reply BENCHES side.0 rec len samples.now model.now out }
+    ensures { test_as_reply result ≡ frame_reply BENCHES side.0 rec len samples.now model.now out }
 {
     desk::gate(side, rec, len, 1)?;
     if samples.len() != 480 {
@@ -53,7 +53,7 @@ pub(crate) fn take_reply(
     out: usize,
     answers: usize,
 ) -> Result<(), Cause>
-    ensures { reply_of_test result
+    ensures { test_as_reply result
         ≡ take_reply BENCHES side.0 rec store.now piece.now model.now out answers }
 {
     desk::gate(side, rec, store.len(), desk::PIECE)?;

@@ -3,7 +3,8 @@ use Rattle.std.specs.Prelude.{◌≤◌, ◌≡◌, Result}
 use Rattle.rules.proofs.Common.{ℕ, Bool, true, List, Float, refl, sym, ap, ◌∙◌}
 use Rattle.rules.specs.declared.refusal.Refusal.{Refusal}
 use Rattle.rules.proofs.Refusals.{fitting as when_fitting, left}
-use Rattle.desk.proofs.Results.{never_0, same_error}
+use Rattle.rules.proofs.Numbered.{never_0}
+use Rattle.desk.proofs.Results.{same_error}
 use Rattle.feed.specs.Feed.{block_of}
 use Rattle.feed.specs.Private.{fitting}
 use Rattle.feed.proofs.Handed.{turned, shut, unpacks, fed, sized, part_length, ready}

@@ -9,7 +9,7 @@ use Rattle.sheet.specs.Written.{known_kinds}
 use Rattle.sheet.specs.Rows.{records_laid}
 use Rattle.sheet.proofs.InRow.{rows_laid}
 use Rattle.sheet.proofs.Laying.{length_records}
-use Rattle.desk.proofs.Results.{told_done}
+use Rattle.rules.proofs.Numbered.{told_done}
 use Rattle.feed.proofs.out.note_down.Goals as goal
 
 laid : (side : ℕ) (es numbers out : List ℕ) {r : ℕ} {numbers' out' : List ℕ} → length numbers ≡ 2

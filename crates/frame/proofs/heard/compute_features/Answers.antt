@@ -36,7 +36,8 @@ sensed share index p ep logs hx hex hlag h =
     )
 
 -- every length is as it should be
-fit : (share features exp p ep logs : List Float) {x ex : List Float} {index : ℕ} → length share ≡ 3778 → length features ≡ 42
+fit : (share features exp p ep logs : List Float) {x ex : List Float} {index : ℕ}
+    → length share ≡ 3778 → length features ≡ 42
     → length exp ≡ 22 → index ≤ 7 → length p ≡ 961 → length ep ≡ 22 → length logs ≡ 22 → x ≡ get kept_x share
     → ex ≡ get kept_ex share
     → FeaturesFit (length features) (length exp) (length (get cepstral_mem share)) index (length x) (length p)
@@ -58,9 +59,9 @@ pub unwrap-requires : goal.unwrap-requires
 unfolding get
 unwrap-requires c =
     let pre = c.requires in
-    let s = pre.sizes in
     let done = fitting c.compute_features.ensures
-    (fit _ _ _ _ _ _ s.0 (omega arith) (omega arith) s.1 (omega arith) (omega arith) (omega arith) pre.as_kept.0
+    (fit c.args.share.now c.args.features.now c.args.exp.now c.args.lent.p.now c.args.lent.ep.now c.args.lent.logs.now
+    (omega arith) (omega arith) (omega arith) pre.inside (omega arith) (omega arith) (omega arith) pre.as_kept.0
     pre.as_kept.1) in
     ok_of (ap (λ (b : Result Unit Refusal × (List Float × (List Float × List Float))). b.0) done)
 
@@ -70,7 +71,7 @@ returns c =
     let a = c.args in
     let share = a.share.now in
     let pre = c.requires in
-    let s = pre.sizes in
     sensed share a.index a.lent.p.now a.lent.ep.now a.lent.logs.now pre.as_kept.0 pre.as_kept.1 (lag_at share)
-    (fitted c.compute_features.ensures (fit _ _ _ _ _ _ s.0 (omega arith) (omega arith) s.1 (omega arith) (omega arith) (omega arith) pre.as_kept.0
+    (fitted c.compute_features.ensures (fit c.args.share.now c.args.features.now c.args.exp.now c.args.lent.p.now c.args.lent.ep.now c.args.lent.logs.now
+    (omega arith) (omega arith) (omega arith) pre.inside (omega arith) (omega arith) (omega arith) pre.as_kept.0
     pre.as_kept.1))

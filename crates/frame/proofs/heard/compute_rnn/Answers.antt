@@ -17,8 +17,7 @@ unwrap-requires c =
     let n = c.compute_on in
     let a = c.args in
     let share = a.share.now in
-    let whole = c.requires.size in
-    let lent = length_get states share (omega (arith, whole)) in
+    let lent = length_get states share (omega arith) in
     let good = (model_in (read_of a.model.now) c.requires.reads).1 in
     let done = n.ensures
     ∙ sym (computed_done _ _ _ _ _ _ _ (fit_on (get states share) (omega arith) refl lent (omega arith)) good refl) in
@@ -30,9 +29,8 @@ returns c = λ m good.
     let n = c.compute_on in
     let a = c.args in
     let share = a.share.now in
-    let whole = c.requires.size in
-    let lent = length_get states share (omega (arith, whole)) in
+    let lent = length_get states share (omega arith) in
     let done = n.ensures
     ∙ sym (computed_done _ _ _ _ _ _ _ (fit_on (get states share) (omega arith) refl lent (omega arith)) good refl) in
-    thought share a.model.now m a.features.now n.new.states whole (n.auto.states ∙ lent)
+    thought share a.model.now m a.features.now n.new.states (omega arith) (n.auto.states ∙ lent)
     (ap (λ (o : Outcome). o.layers) done)

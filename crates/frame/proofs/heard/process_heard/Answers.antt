@@ -1,17 +1,6 @@
 -- `frame::heard::process_heard` meets its contract: what each stage leaves, in a row. Assumes nothing.
-use Rattle.rules.proofs.Common.{ap, ◌∙◌, length}
-use native.Mathlib.Omega.{arith}
-use Rattle.frame.proofs.Sizes.{x_size, ex_size}
 use Rattle.frame.proofs.Spoken.{spoke}
 use Rattle.frame.proofs.heard.process_heard.Goals as goal
-
-pub filter_and_apply_gain-requires : goal.filter_and_apply_gain-requires
-filter_and_apply_gain-requires c =
-    let pre = c.requires in
-    let share = c.args.share.now in
-    let x = ap length pre.as_kept.0 ∙ x_size share pre.sizes.0 in
-    let ex = ap length pre.as_kept.1 ∙ ex_size share pre.sizes.0 in
-    omega (arith, pre, x, ex, c.compute_features.auto, c.compute_rnn-voice.auto)
 
 pub returns : goal.returns
 returns c = λ m good.

@@ -11,4 +11,5 @@ abbrev pub invariant-loop-i : goal.invariant-loop-i
 invariant-loop-i l = (l.i ≤ l.i-end) × (l.i-end ≡ length l.initial.out)
     × UnpackFits (length l.initial.out) (length l.bytes) (numbered l.format) l.channels l.channel
     × (l.width ≡ width (numbered l.format))
-    × Filling (λ k. number_at (numbered l.format) l.bytes (sample_place (numbered l.format) l.channels l.channel k)) l.initial.out l.i l.out
+    × Filling (λ k. number_at (numbered l.format) l.bytes (sample_place (numbered l.format) l.channels l.channel k))
+    l.initial.out l.i l.out

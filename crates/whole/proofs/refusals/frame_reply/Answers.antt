@@ -1,7 +1,8 @@
 -- `whole::refusals::frame_reply` meets its contract: each answer by the tests that lead to it. Assumes nothing.
 use mathlib.Core.Path.{◌∙◌}
 use borrow.Author.Tests.{ne_eqb}
-use Rattle.desk.proofs.Results.{never_0, same_error}
+use Rattle.rules.proofs.Numbered.{never_0}
+use Rattle.desk.proofs.Results.{same_error}
 use Rattle.whole.specs.Whole.{frame_reply}
 use Rattle.whole.proofs.refusals.frame_reply.Goals as goal
 

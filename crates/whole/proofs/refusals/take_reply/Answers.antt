@@ -5,7 +5,8 @@ use Rattle.rules.proofs.Common.{ℕ, Bool, true, sym, ◌∙◌, length}
 use borrow.Author.Tests.{ne_eqb, le-leb, lt-leb}
 use Rattle.pieces.specs.Pieces.{piece_fits}
 use Rattle.desk.specs.Gate.{BENCHES}
-use Rattle.desk.proofs.Results.{never_0, same_error}
+use Rattle.rules.proofs.Numbered.{never_0}
+use Rattle.desk.proofs.Results.{same_error}
 use Rattle.desk.proofs.Turned.{through}
 use Rattle.whole.specs.Whole.{take_reply}
 use Rattle.whole.proofs.Accepted.{fits_sizes}

@@ -4,7 +4,7 @@ use native.Mathlib.Omega.{arith}
 use Rattle.rules.proofs.Common.{refl, ap, ◌∙◌}
 use Rattle.rules.specs.Place.{get, put}
 use Rattle.rules.proofs.Refusals.{left}
-use Rattle.frame.specs.Answer.{reply_of}
+use Rattle.frame.specs.Answer.{as_reply}
 use Rattle.frame.specs.Reply.{passed}
 use Rattle.desk.specs.Answer.{Answer}
 use Rattle.desk.specs.declared.Record.{Record}
@@ -18,7 +18,8 @@ unfolding get put
 unwrap-requires c =
     let a = c.args in
     let k = c.requires.samples_len in
-    is_done _ (first_fits a.rec a.share.now a.samples.now a.model.now c.requires.fit k.0 k.1 c.first_half.ensures.answers)
+    is_done _
+    (first_fits a.rec a.share.now a.samples.now a.model.now c.requires.fit k.0 k.1 c.first_half.ensures.answers)
 
 pub unwrap-requires-3 : goal.unwrap-requires-3
 unfolding get put
@@ -47,4 +48,4 @@ returns c =
     spoke a.rec a.share.now a.samples.now a.model.now c.requires.fit k.0 k.1 c.first_half.ensures
     (left c.logs.ensures (record { into = refl; from = omega (arith, c.first_half.auto) })) k.2
     c.second_half-outcome.ensures
-    (told ∙ ap (λ (b : Record). told_second b (reply_of c.second_half-outcome.result)) c.holding.ensures)
+    (told ∙ ap (λ (b : Record). told_second b (as_reply c.second_half-outcome.result)) c.holding.ensures)
