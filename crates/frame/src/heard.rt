@@ -12,8 +12,21 @@ ghost use Rattle.frame.specs.Frame.{done3, counted, checked};
 ghost use Rattle.frame.specs.Private.{IsModel, Reads, featured_as, rnn_as, spoken_as};
 ghost use Rattle.frame.specs.Answer.{reply_told, test_as_reply};
 
-use crate::{Cause, Hearing, Told};
+use crate::{Cause, Hearing, PART, Told};
 use rules::Refusal;
+
+// What a heard frame is lent besides its share and its spectrum.
+#[derive(Clone, Copy)]
+struct Lent<'a> {
+    // The spectrum of the lagged window, scaled.
+    p: &'a [f32; 961],
+    // The band energies that the share keeps.
+    ex: &'a [f32; 22],
+    // The band energies of p.
+    ep: &'a [f32; 22],
+    // The logarithms of 0.01 + ex.
+    logs: &'a [f32; 22],
+}
 
 // The model's test: refused with 7 if it does not read, and with 8 if it has other GRU sizes.
 #[tactic(auto, using(rules::proofs::Tests::tests), unfolding(crate::specs::Frame::checked))]
@@ -33,22 +46,19 @@ pub fn check(model: &[u8], hearing: Hearing) -> Result<(), Cause>
 // Computes the features and the correlations, and stores the new cepstrum. x and ex are those that the share
 // keeps.
 fn compute_features(
-    share: &mut [f32],
-    features: &mut [f32],
-    exp: &mut [f32],
+    share: &mut [f32; PART],
+    features: &mut [f32; 42],
+    exp: &mut [f32; 22],
     index: usize,
-    x: &[f32],
-    p: &[f32],
-    ex: &[f32],
-    ep: &[f32],
-    logs: &[f32],
+    x: &[f32; 961],
+    lent: Lent,
 )
-    requires sizes { (length share.old ≡ 3778) × (length features.old ≡ 42) × (length exp.old ≡ 22) × (index ≤ 7) }
-    requires lent_sizes { (length p.now ≡ 961) × (length ep.now ≡ 22) × (length logs.now ≡ 22) }
-    requires as_kept { (x.now ≡ get kept_x share.old) × (ex.now ≡ get kept_ex share.old) }
+    requires inside { index ≤ 7 }
+    requires as_kept { (x.now ≡ get kept_x share.old) × (lent.ex.now ≡ get kept_ex share.old) }
     ensures { featured_as share.new features.new exp.new
-        ≡ featured share.old index p.now ep.now logs.now }
+        ≡ featured share.old index lent.entry.p.now lent.entry.ep.now lent.entry.logs.now }
 {
+    let Lent { p, ex, ep, logs } = lent;
     let lag = share[3191];
     features::compute_features(
         features,
@@ -66,8 +76,12 @@ fn compute_features(
 }
 
 // Runs the network on the states in the share. Gives the gains and returns the voice.
-fn compute_rnn(share: &mut [f32], gains: &mut [f32], model: &[u8], features: &[f32]) -> f32
-    requires sizes { (length share.old ≡ 3778) × (length gains.old ≡ 22) × (length features.now ≡ 42) }
+fn compute_rnn(
+    share: &mut [f32; PART],
+    gains: &mut [f32; 22],
+    model: &[u8],
+    features: &[f32; 42],
+) -> f32
     requires reads { IsModel (read_of model.now) }
     ensures { Reads model.now
         (λ m. rnn_as share.new gains.new result
@@ -79,8 +93,7 @@ fn compute_rnn(share: &mut [f32], gains: &mut [f32], model: &[u8], features: &[f
 }
 
 #[tactic(auto, using(rules::proofs::Refusals::left))]
-fn apply(out: &mut [f32], gains: &[f32])
-    requires { (length out.old ≡ 961) × (length gains.now ≡ 22) }
+fn apply(out: &mut [f32; 961], gains: &[f32; 22])
     ensures { out.new ≡ applied out.old (band_gain gains.now) }
 {
     let mut gf = [0.0f32; 481];
@@ -89,8 +102,7 @@ fn apply(out: &mut [f32], gains: &[f32])
 }
 
 // Raises the gains to 0.6 of the last ones, remembers them, and applies them.
-fn apply_gain(share: &mut [f32], out: &mut [f32], gains: &mut [f32])
-    requires { (length share.old ≡ 3778) × (length out.old ≡ 961) × (length gains.old ≡ 22) }
+fn apply_gain(share: &mut [f32; PART], out: &mut [f32; 961], gains: &mut [f32; 22])
     ensures share_after { share.new
         ≡ put lastg share.old (held_gains share.old gains.old) }
     ensures out_after { out.new
@@ -103,24 +115,21 @@ fn apply_gain(share: &mut [f32], out: &mut [f32], gains: &mut [f32])
 // The pitch filter, with the network's own gains; then the gains are raised, remembered and applied.
 #[tactic(auto, using(rules::proofs::Refusals::left))]
 fn filter_and_apply_gain(
-    share: &mut [f32],
-    out: &mut [f32],
-    gains: &mut [f32],
-    p: &[f32],
-    exp: &[f32],
-    ex: &[f32],
-    ep: &[f32],
+    share: &mut [f32; PART],
+    out: &mut [f32; 961],
+    gains: &mut [f32; 22],
+    exp: &[f32; 22],
+    lent: Lent,
 )
-    requires sizes { (length share.old ≡ 3778) × (length out.old ≡ 961) × (length gains.old ≡ 22) }
-    requires lent_sizes { (length p.now ≡ 961) × (length exp.now ≡ 22) × (length ex.now ≡ 22) × (length ep.now ≡ 22) }
     ensures share_after { share.new
         ≡ put lastg share.old (held_gains share.old gains.old) }
     ensures out_after { out.new
         ≡ applied
-        (pitch_filtered out.old p.now gains.old exp.now ex.now
-        ep.now)
+        (pitch_filtered out.old lent.entry.p.now gains.old exp.now lent.entry.ex.now
+        lent.entry.ep.now)
         (band_gain (held_gains share.old gains.old)) }
 {
+    let Lent { p, ex, ep, .. } = lent;
     features::pitch_filter(out, p, gains, exp, ex, ep).unwrap();
     apply_gain(share, out, gains);
 }
@@ -128,43 +137,39 @@ fn filter_and_apply_gain(
 // A heard frame, from p and its energies on. `out` holds x and becomes the spectrum to be transformed back.
 // Returns the voice.
 fn process_heard(
-    share: &mut [f32],
-    out: &mut [f32],
+    share: &mut [f32; PART],
+    out: &mut [f32; 961],
     index: usize,
-    p: &[f32],
-    ex: &[f32],
-    ep: &[f32],
-    logs: &[f32],
+    lent: Lent,
     model: &[u8],
 ) -> f32
-    requires sizes { (length share.old ≡ 3778) × (index ≤ 7) × (length p.now ≡ 961) × (length ep.now ≡ 22)
-        × (length logs.now ≡ 22) }
-    requires as_kept { (out.old ≡ get kept_x share.old) × (ex.now ≡ get kept_ex share.old) }
+    requires inside { index ≤ 7 }
+    requires as_kept { (out.old ≡ get kept_x share.old) × (lent.ex.now ≡ get kept_ex share.old) }
     requires reads { IsModel (read_of model.now) }
     ensures { Reads model.now (λ m. spoken_as share.new result out.new
-        ≡ spoken_from share.old index p.now ep.now logs.now
+        ≡ spoken_from share.old index lent.entry.p.now lent.entry.ep.now lent.entry.logs.now
         model.now m) }
 {
     let mut features = [0.0f32; 42];
     let mut exp = [0.0f32; 22];
     let mut gains = [0.0f32; 22];
-    compute_features(share, &mut features, &mut exp, index, out, p, ex, ep, logs);
+    compute_features(share, &mut features, &mut exp, index, out, lent);
     let voice = compute_rnn(share, &mut gains, model, &features);
-    filter_and_apply_gain(share, out, &mut gains, p, &exp, ex, ep);
+    filter_and_apply_gain(share, out, &mut gains, &exp, lent);
     voice
 }
 
 // A heard frame. `out` holds x and becomes the spectrum to be transformed back. Returns the voice.
 fn hear(
-    share: &mut [f32],
-    out: &mut [f32],
+    share: &mut [f32; PART],
+    out: &mut [f32; 961],
     index: usize,
-    spectrum: &[f32],
-    logs: &[f32],
+    spectrum: &[f32; 961],
+    logs: &[f32; 22],
     model: &[u8],
 ) -> f32
-    requires sizes { (length share.old ≡ 3778) × (out.old ≡ get kept_x share.old) × (index ≤ 7)
-        × (length spectrum.now ≡ 961) × (length logs.now ≡ 22) }
+    requires inside { index ≤ 7 }
+    requires as_kept { out.old ≡ get kept_x share.old }
     requires reads { IsModel (read_of model.now) }
     ensures { Reads model.now (λ m. spoken_as share.new result out.new
         ≡ spoken share.old index spectrum.now logs.now model.now m) }
@@ -174,20 +179,25 @@ fn hear(
     let mut ep = [0.0f32; 22];
     rules::copy(&mut ex, &share[3169..3191]).unwrap();
     crate::lagged::transform(&mut p, &mut ep, spectrum);
-    process_heard(share, out, index, &p, &ex, &ep, logs, model)
+    let lent = Lent {
+        p: &p,
+        ex: &ex,
+        ep: &ep,
+        logs,
+    };
+    process_heard(share, out, index, lent, model)
 }
 
 // Call 3 after its refusals: the frame is silent or heard, and the spectrum is written.
 pub(crate) fn listen(
-    share: &mut [f32],
-    out: &mut [f32],
+    share: &mut [f32; PART],
+    out: &mut [f32; 961],
     index: usize,
-    spectrum: &[f32],
-    logs: &[f32],
+    spectrum: &[f32; 961],
+    logs: &[f32; 22],
     model: &[u8],
 ) -> Told
-    requires sizes { (length share.old ≡ 3778) × (length out.old ≡ 961) × (index ≤ 7)
-        × (length spectrum.now ≡ 961) × (length logs.now ≡ 22) }
+    requires inside { index ≤ 7 }
     requires reads { IsModel (read_of model.now) }
     ensures { Reads model.now (λ m. Worked
         (done3 share.old index spectrum.now logs.now model.now m)

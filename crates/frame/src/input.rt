@@ -22,10 +22,10 @@ fn shift(mem: &mut [f32])
 pub(crate) fn take_in(
     mem: &mut [f32],
     memory: Memory,
-    samples: &[f32],
-    window: &mut [f32],
+    samples: &[f32; 480],
+    window: &mut [f32; 960],
 ) -> Memory
-    requires { (length mem.old ≡ 1728) × (length samples.now ≡ 480) × (length window.old ≡ 960) }
+    requires { length mem.old ≡ 1728 }
     ensures value { result ≡ memory_after high_pass memory samples.now }
     ensures mem_after { mem.new ≡ shifted mem.old (outputs high_pass memory samples.now) }
     ensures window_after { window.new

@@ -69,7 +69,12 @@ pub fn call1(share: &mut [f32], samples: &[f32], window: &mut [f32]) -> Result<T
         m0: share[3192],
         m1: share[3193],
     };
-    let next = input::take_in(&mut share[0..1728], memory, samples, window);
+    let next = input::take_in(
+        &mut share[0..1728],
+        memory,
+        samples.as_array().unwrap(),
+        window.as_mut_array().unwrap(),
+    );
     share[3192] = next.m0;
     share[3193] = next.m1;
     Ok(Told::Done)
@@ -99,7 +104,12 @@ pub fn call2(
     let back = lag.0;
     let from = 768 - back;
     bands::apply_window(window, &share[from..from + 960]).unwrap();
-    lagged::note(share, spectrum, Lag(back), sums);
+    lagged::note(
+        share.as_mut_array().unwrap(),
+        spectrum.as_array().unwrap(),
+        Lag(back),
+        sums.as_mut_array().unwrap(),
+    );
     Ok(Told::Done)
 }
 
@@ -128,7 +138,14 @@ pub fn call3(
         return Err(Cause::Plain(Refusal::WrongLength));
     }
     heard::check(model, hearing)?;
-    Ok(heard::listen(share, out, hearing.index, spectrum, logs, model))
+    Ok(heard::listen(
+        share.as_mut_array().unwrap(),
+        out.as_mut_array().unwrap(),
+        hearing.index,
+        spectrum.as_array().unwrap(),
+        logs.as_array().unwrap(),
+        model,
+    ))
 }
 
 // Call 4: 960 inverse samples in, 480 numbers written.
@@ -140,6 +157,10 @@ pub fn call4(share: &mut [f32], inverse: &[f32], out: &mut [f32]) -> Result<Told
     if share.len() != PART || inverse.len() != 960 || out.len() != 480 {
         return Err(Cause::Plain(Refusal::WrongLength));
     }
-    output::synthesise(&mut share[1728..2208], inverse, out);
+    output::synthesise(
+        &mut share[1728..2208],
+        inverse.as_array().unwrap(),
+        out.as_mut_array().unwrap(),
+    );
     Ok(Told::Done)
 }

@@ -19,6 +19,8 @@ pub returns : goal.returns
 unfolding put get
 returns c =
     let w = c.take_in-next in
+    let taken = (rw c.unwrap.ensures at c.as_array.ensures.cases).same in
+    let done = rw taken at w.ensures in
     let a = c.args in
     let share = a.share.now in
     let fine = sym c.all_good.ensures ∙ c.if-not-all_good.false in
@@ -33,6 +35,6 @@ returns c =
           put_sets (put input_mem share w.new.mem) (memory_list w.result) 3192
           (simp (length-append, length-drop) (omega arith))
           ∙ ap₂ (λ (mem : List Float) (m : Memory). put mem_hp_x (put input_mem share mem) (memory_list m))
-          w.ensures.mem_after w.ensures.value;
-      writes = ap (λ (l : List Float). l ∷ []) w.ensures.window_after;
+          done.mem_after done.value;
+      writes = ap (λ (l : List Float). l ∷ []) done.window_after;
     })

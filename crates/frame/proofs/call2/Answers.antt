@@ -16,12 +16,15 @@ returns c =
     let lag = a.lag.0 in
     let window = fitted c.apply_window.ensures
     (record { into = omega arith; from = simp (length-take, length-drop) (omega arith) }) in
+    let part = (rw c.unwrap-2.ensures at c.as_mut_array.ensures.cases).same in
+    let bins = (rw c.unwrap-3.ensures at c.as_array.ensures.cases).same in
+    let noted = rw (part, bins) at c.note.ensures in
     rw (call2_done share (omega arith) a.spectrum.now lag (length a.window.now) (length a.sums.now)
     (omega arith) (omega arith) (omega arith) (omega arith))
     (record {
       answers = refl;
-      keeps = c.note.ensures.share_after;
+      keeps = noted.share_after;
       writes =
           ap₂ (λ (x y : List Float). x ∷ y ∷ [])
-          (window ∙ ap windowed (looked_at share lag (omega arith) (omega arith))) c.note.ensures.sums_after;
+          (window ∙ ap windowed (looked_at share lag (omega arith) (omega arith))) noted.sums_after;
     })

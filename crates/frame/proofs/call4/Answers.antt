@@ -11,10 +11,12 @@ pub returns : goal.returns
 unfolding put get
 returns c =
     let a = c.args in
+    let samples = (rw c.unwrap.ensures at c.as_array.ensures.cases).same in
+    let done = rw samples at c.synthesise.ensures in
     rw (call4_done a.share.now (omega arith) a.inverse.now (length a.out.now) (omega arith)
     (omega arith))
     (record {
       answers = refl;
-      keeps = ap (put synthesis_mem a.share.now) c.synthesise.ensures.kept_after;
-      writes = ap (λ (l : List Float). l ∷ []) c.synthesise.ensures.out_after;
+      keeps = ap (put synthesis_mem a.share.now) done.kept_after;
+      writes = ap (λ (l : List Float). l ∷ []) done.out_after;
     })

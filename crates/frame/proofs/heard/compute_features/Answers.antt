@@ -1,6 +1,7 @@
 -- `frame::heard::compute_features` meets its contract: what each call leaves, in a row. Assumes nothing.
 use Rattle.std.specs.Prelude.{◌≡◌, ◌≤◌, Result}
 use Rattle.rules.proofs.Common.{ℕ, List, ap, ◌∙◌, length, Float}
+use native.Mathlib.Omega.{arith}
 use Rattle.rules.specs.F32.{at}
 use Rattle.rules.specs.Leaf.{◌leaving◌}
 use Rattle.rules.specs.Place.{get, put}
@@ -58,10 +59,10 @@ pub unwrap-requires : goal.unwrap-requires
 unfolding get
 unwrap-requires c =
     let pre = c.requires in
-    let l = pre.lent_sizes in
-    let s = pre.sizes in
     let done = fitting c.compute_features.ensures
-    (fit _ _ _ _ _ _ s.0 s.1 s.2 s.3 l.0 l.1 l.2 pre.as_kept.0 pre.as_kept.1) in
+    (fit c.args.share.now c.args.features.now c.args.exp.now c.args.lent.p.now c.args.lent.ep.now c.args.lent.logs.now
+    (omega arith) (omega arith) (omega arith) pre.inside (omega arith) (omega arith) (omega arith) pre.as_kept.0
+    pre.as_kept.1) in
     ok_of (ap (λ (b : Result Unit Refusal × (List Float × (List Float × List Float))). b.0) done)
 
 pub returns : goal.returns
@@ -70,7 +71,7 @@ returns c =
     let a = c.args in
     let share = a.share.now in
     let pre = c.requires in
-    let l = pre.lent_sizes in
-    let s = pre.sizes in
-    sensed share a.index a.p.now a.ep.now a.logs.now pre.as_kept.0 pre.as_kept.1 (lag_at share)
-    (fitted c.compute_features.ensures (fit _ _ _ _ _ _ s.0 s.1 s.2 s.3 l.0 l.1 l.2 pre.as_kept.0 pre.as_kept.1))
+    sensed share a.index a.lent.p.now a.lent.ep.now a.lent.logs.now pre.as_kept.0 pre.as_kept.1 (lag_at share)
+    (fitted c.compute_features.ensures (fit c.args.share.now c.args.features.now c.args.exp.now c.args.lent.p.now c.args.lent.ep.now c.args.lent.logs.now
+    (omega arith) (omega arith) (omega arith) pre.inside (omega arith) (omega arith) (omega arith) pre.as_kept.0
+    pre.as_kept.1))

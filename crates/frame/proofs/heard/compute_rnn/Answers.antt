@@ -17,11 +17,10 @@ unwrap-requires c =
     let n = c.compute_on in
     let a = c.args in
     let share = a.share.now in
-    let pre = c.requires.sizes in
-    let lent = length_get states share (omega (arith, pre.0)) in
+    let lent = length_get states share (omega arith) in
     let good = (model_in (read_of a.model.now) c.requires.reads).1 in
     let done = n.ensures
-    ∙ sym (computed_done _ _ _ _ _ _ _ (fit_on (get states share) pre.1 refl lent pre.2) good refl) in
+    ∙ sym (computed_done _ _ _ _ _ _ _ (fit_on (get states share) (omega arith) refl lent (omega arith)) good refl) in
     computed_ok n.result (ap (λ (o : Outcome). o.answer) done)
 
 pub returns : goal.returns
@@ -30,9 +29,8 @@ returns c = λ m good.
     let n = c.compute_on in
     let a = c.args in
     let share = a.share.now in
-    let pre = c.requires.sizes in
-    let lent = length_get states share (omega (arith, pre.0)) in
+    let lent = length_get states share (omega arith) in
     let done = n.ensures
-    ∙ sym (computed_done _ _ _ _ _ _ _ (fit_on (get states share) pre.1 refl lent pre.2) good refl) in
-    thought share a.model.now m a.features.now n.new.states pre.0 (n.auto.states ∙ lent)
+    ∙ sym (computed_done _ _ _ _ _ _ _ (fit_on (get states share) (omega arith) refl lent (omega arith)) good refl) in
+    thought share a.model.now m a.features.now n.new.states (omega arith) (n.auto.states ∙ lent)
     (ap (λ (o : Outcome). o.layers) done)

@@ -1,5 +1,6 @@
 -- `frame::heard::hear` meets its contract. Assumes nothing.
 use Rattle.rules.proofs.Common.{sym}
+use native.Mathlib.Omega.{arith}
 use Rattle.rules.specs.Place.{get}
 use Rattle.rules.proofs.Refusals.{left as fitted}
 use Rattle.frame.proofs.Sizes.{ex_size}
@@ -8,5 +9,4 @@ use Rattle.frame.proofs.heard.hear.Goals as goal
 pub process_heard-requires-clause-as_kept : goal.process_heard-requires-clause-as_kept
 unfolding get
 process_heard-requires-clause-as_kept c =
-    let pre = c.requires.sizes in
-    (pre.1, fitted c.copy.ensures (sym (ex_size c.args.share.now pre.0)))
+    (c.requires.as_kept, fitted c.copy.ensures (sym (ex_size c.args.share.now (omega arith))))

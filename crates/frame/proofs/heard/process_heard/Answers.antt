@@ -1,21 +1,10 @@
 -- `frame::heard::process_heard` meets its contract: what each stage leaves, in a row. Assumes nothing.
-use Rattle.rules.proofs.Common.{ap, ◌∙◌, length}
-use native.Mathlib.Omega.{arith}
-use Rattle.frame.proofs.Sizes.{x_size, ex_size}
 use Rattle.frame.proofs.Spoken.{spoke}
 use Rattle.frame.proofs.heard.process_heard.Goals as goal
-
-pub filter_and_apply_gain-requires : goal.filter_and_apply_gain-requires
-filter_and_apply_gain-requires c =
-    let pre = c.requires in
-    let share = c.args.share.now in
-    let x = ap length pre.as_kept.0 ∙ x_size share pre.sizes.0 in
-    let ex = ap length pre.as_kept.1 ∙ ex_size share pre.sizes.0 in
-    omega (arith, pre, x, ex, c.compute_features.auto, c.compute_rnn-voice.auto)
 
 pub returns : goal.returns
 returns c = λ m good.
     let a = c.args in
-    spoke a.share.now a.model.now m a.index a.p.now a.ep.now a.logs.now c.requires.as_kept.0 c.requires.as_kept.1
+    spoke a.share.now a.model.now m a.index a.lent.p.now a.lent.ep.now a.lent.logs.now c.requires.as_kept.0 c.requires.as_kept.1
     c.compute_features.ensures (c.compute_rnn-voice.ensures m good) c.filter_and_apply_gain.ensures.share_after
     c.filter_and_apply_gain.ensures.out_after
