@@ -12,7 +12,7 @@ use Rattle.rules.proofs.Lists.{Filling}
 use Rattle.pitch.specs.Xcorr.{pitch_xcorr}
 use Rattle.pitch.specs.Downsample.{downsampled}
 use Rattle.pitch_search.specs.Best.{best_of, first_of, second_of}
-use Rattle.pitch_search.specs.Inner.{inner_prod, sum_of, InnerFits}
+use Rattle.pitch_search.specs.Inner.{inner_prod, InnerFits}
 use Rattle.pitch_search.specs.declared.Pitches.{Pitches}
 use Rattle.rules.specs.declared.refusal.Refusal.{Refusal}
 use Rattle.rules.specs.declared.refusal.Refusal.TheVariants.{WrongLength}
@@ -29,6 +29,11 @@ use Rattle.finder.proofs.Ranges.{coarse_small, best_small, search_small}
 rest : (x : List Float) (from n : ℕ) → length x ≡ from + n → take n (drop from x) ≡ drop from x
 rest x from n size = take_all n (drop from x) (simp length-drop (omega arith))
 
+-- a value that is there
+abbrev value : Result Float Refusal → Float
+value (Ok x) = x
+value (Err refusal) = f32 0
+
 -- the last 480 numbers with those from a place on
 pub inner_at : (x : List Float) (from : ℕ) {p : Result Float Refusal} {v : Float} → length x ≡ 864 → from ≤ 384
     → p ≡ Ok v
@@ -38,7 +43,7 @@ pub inner_at : (x : List Float) (from : ℕ) {p : Result Float Refusal} {v : Flo
 inner_at x from size h e leaf =
     let left = rest x 384 480 (omega arith) in
     let right = rest x from (864 - from) (omega arith) in
-    ap sum_of (sym e ∙ fitting leaf
+    ap value (sym e ∙ fitting leaf
     (record { left = rw left (simp length-drop (omega arith)); right = rw right (simp length-drop (omega arith)) }))
     ∙ rw (left, right)
 

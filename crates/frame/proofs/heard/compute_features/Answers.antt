@@ -72,6 +72,7 @@ returns c =
     let share = a.share.now in
     let pre = c.requires in
     sensed share a.index a.lent.p.now a.lent.ep.now a.lent.logs.now pre.as_kept.0 pre.as_kept.1 (lag_at share)
-    (fitted c.compute_features.ensures (fit c.args.share.now c.args.features.now c.args.exp.now c.args.lent.p.now c.args.lent.ep.now c.args.lent.logs.now
+    (fitted c.compute_features.ensures
+    (fit c.args.share.now c.args.features.now c.args.exp.now c.args.lent.p.now c.args.lent.ep.now c.args.lent.logs.now
     (omega arith) (omega arith) (omega arith) pre.inside (omega arith) (omega arith) (omega arith) pre.as_kept.0
     pre.as_kept.1))
