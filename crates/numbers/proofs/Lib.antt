@@ -1,6 +1,7 @@
 pub mod Closest
 pub mod Conversion
 pub mod Examples
+pub mod Extraction
 pub mod Floors
 pub mod Held
 pub mod Larger

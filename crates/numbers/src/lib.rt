@@ -1,11 +1,10 @@
-// The numbers of util.rs, and what they need of IEEE 754. Each function has a result for every input, and its contract
-// is an equation with a definition of `specs/`.
+// The numbers of util.rs, and what the language leaves out of IEEE 754. Each function has a result for every input, and
+// its contract is an equation with a definition of `specs/`.
 //     max, min, clamp, relu            two numbers compared
 //     tansig_approx, sigmoid_approx    the activations
 //     lists                            the activations of each number of a list, over a table that is lent
 //     Biquad                           the high-pass filter, in filter.rt
-//     narrow                           `x as f32` of an `f64`, from the bits
-//     sqrt                             the square root
+//     narrow, sqrt                     `x as f32` of an `f64`, and the square root, from the bits
 #![tactic(auto)]
 
 ghost use Rattle.std.specs.Prelude.{◌≡◌, ◌*◌, ◌^◌, ◌<◌, ◌≤◌, ◌||◌, pos};
@@ -14,7 +13,7 @@ ghost use Rattle.std.specs.Float.Ieee.{lt, of_int};
 ghost use Rattle.std.specs.Float.Ieee.Nearest.{closest};
 ghost use Rattle.rules.specs.F32.{f32};
 ghost use Rattle.numbers.specs.Narrowed.{narrowed};
-ghost use Rattle.numbers.specs.Root.{root};
+ghost use Rattle.numbers.specs.Root.{twice_root, root};
 ghost use Rattle.numbers.specs.Larger.{yields, larger, smaller, clamped, rectified};
 ghost use Rattle.numbers.specs.Activations.{magnitude, sign_of, place, tansig_in, tansig_approx, sigmoid_approx};
 ghost use Rattle.numbers.specs.Private.{UpToEight, overshoot, inside_of, place_in, entry_in, ended_by, followed};
@@ -158,7 +157,6 @@ fn follow(x: f32, y: f32) -> f32
 }
 
 // `tansig_approx` over a lent table.
-// Stays: each mention of the table fills it anew, so one number is looked up by `table::entry`, and a list over a loan.
 fn tansig_in(table: &[f32; 201], x: f32) -> f32
     ensures { result ≡ tansig_in table.now x }
 {
@@ -196,9 +194,11 @@ const HALF_LARGEST: u64 = 0x47e0_0000_0000_0000;
 
 const INFINITY: u64 = 0x7f80_0000;
 
+// The pattern of 2^48: what is added to it counts sixteenths.
+const SIXTEENTHS: u64 = 0x42f0_0000_0000_0000;
+
 // x as an `f32`: the nearest one, and of two that are as near the one whose last digit is even. Past the largest it is
 // an infinity, and a NaN stays one. The language can cast an `f64` that is an `f32` already; so x is rounded first.
-// Stays: `nearest_f64_to_f32_with_nan` of std was tried in its place, and takes more than twice the time.
 pub fn narrow(x: f64) -> f32
     ensures { result ≡ narrowed x }
 {
@@ -265,5 +265,67 @@ fn rounded(v: u64, k: u64) -> u64
 pub fn sqrt(x: f32) -> f32
     ensures { result ≡ root binary32 x }
 {
-    x.sqrt()
+    if x > 0.0 {
+        // x is `digits` * 2 ^ (`field` - 1075), since no `f32` is a subnormal `f64`
+        let bits: u64 = f64::to_bits(x as f64);
+        let field: u64 = bits >> 52;
+        if field == 2047 {
+            return x;
+        }
+        let digits: u64 = LEAD + bits % LEAD;
+        // an even power of two is left
+        let root: u64 = root_digits(digits * (2 - field % 2));
+        return f32::from_bits(((field - 771) / 2 * 0x80_0000 + root) as u32);
+    }
+    if x == 0.0 { x } else { 0.0 / 0.0 }
+}
+
+// The 24 leading digits of the root of n, rounded: a guess that proves right, and else by the whole root.
+fn root_digits(n: u64) -> u64
+    requires { n < 2 ^ 54 }
+    ensures { result ≡ closest (twice_root n) (2 ^ 4) }
+{
+    let near = guessed_digits(n);
+    if near > 0 {
+        let low = 8 * near - 4;
+        let high = low + 8;
+        if low * low < n && n < high * high {
+            return near;
+        }
+    }
+    rounded(twice_root(n), 4)
+}
+
+// An eighth of the root of an n from 2^52 to 2^54, to the nearest whole number: two of Newton's steps from a parabola.
+// With 2^52 added, a number keeps no digits behind the point. Nothing else is promised of it.
+fn guessed_digits(n: u64) -> u64
+    ensures { result < 2 ^ 25 }
+{
+    let x = f64::from_bits(SIXTEENTHS + n / 4 % LEAD) - 281474976710656.0;
+    let start = 4349954.1 + x * (6.27052e-8 - x * 6.69834e-23);
+    let nearer = 0.5 * (start + x / start);
+    let root = 0.5 * (nearer + x / nearer) + 4503599627370496.0;
+    if root != root {
+        return 0;
+    }
+    f64::to_bits(root) % 0x200_0000
+}
+
+// Twice the root of n, cut to a whole number, and 1 more where n is no square. The root is searched
+// for: it is at least `r`, and below `r + gap`.
+// Stays: the loop halves its gap and counts no index, so an iterator is no plainer.
+fn twice_root(n: u64) -> u64
+    requires { n < 2 ^ 54 }
+    ensures { result ≡ twice_root n }
+{
+    let mut r: u64 = 0;
+    let mut gap: u64 = 0x800_0000;
+    while gap > 1 {
+        let next: u64 = r + (gap - gap / 2);
+        if next * next <= n {
+            r = next;
+        }
+        gap = gap - gap / 2;
+    }
+    if r * r == n { 2 * r } else { 2 * r + 1 }
 }
