@@ -12,7 +12,7 @@ use Rattle.rules.proofs.Lists.{Filling}
 use Rattle.pitch.specs.Xcorr.{pitch_xcorr}
 use Rattle.pitch.specs.Downsample.{downsampled}
 use Rattle.pitch_search.specs.Best.{best_of, first_of, second_of}
-use Rattle.pitch_search.specs.Inner.{inner_prod, sum_of, InnerFits}
+use Rattle.pitch_search.specs.Inner.{inner_prod, InnerFits}
 use Rattle.pitch_search.specs.declared.Pitches.{Pitches}
 use Rattle.rules.specs.declared.refusal.Refusal.{Refusal}
 use Rattle.rules.specs.declared.refusal.Refusal.TheVariants.{WrongLength}
@@ -28,6 +28,11 @@ use Rattle.finder.proofs.Ranges.{coarse_small, best_small, search_small}
 -- a part up to the end is all that is left
 rest : (x : List Float) (from n : ℕ) → length x ≡ from + n → take n (drop from x) ≡ drop from x
 rest x from n size = take_all n (drop from x) (simp length-drop (omega arith))
+
+-- the sum in an answer, or 0 if it was refused
+abbrev sum_of : Result Float Refusal → Float
+sum_of (Ok sum) = sum
+sum_of (Err refusal) = f32 0
 
 -- the last 480 numbers with those from a place on
 pub inner_at : (x : List Float) (from : ℕ) {p : Result Float Refusal} {v : Float} → length x ≡ 864 → from ≤ 384
