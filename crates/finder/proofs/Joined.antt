@@ -29,10 +29,10 @@ use Rattle.finder.proofs.Ranges.{coarse_small, best_small, search_small}
 rest : (x : List Float) (from n : ℕ) → length x ≡ from + n → take n (drop from x) ≡ drop from x
 rest x from n size = take_all n (drop from x) (simp length-drop (omega arith))
 
--- a value that is there
-abbrev value : Result Float Refusal → Float
-value (Ok x) = x
-value (Err refusal) = f32 0
+-- the sum in an answer, or 0 if it was refused
+abbrev sum_of : Result Float Refusal → Float
+sum_of (Ok sum) = sum
+sum_of (Err refusal) = f32 0
 
 -- the last 480 numbers with those from a place on
 pub inner_at : (x : List Float) (from : ℕ) {p : Result Float Refusal} {v : Float} → length x ≡ 864 → from ≤ 384
@@ -43,7 +43,7 @@ pub inner_at : (x : List Float) (from : ℕ) {p : Result Float Refusal} {v : Flo
 inner_at x from size h e leaf =
     let left = rest x 384 480 (omega arith) in
     let right = rest x from (864 - from) (omega arith) in
-    ap value (sym e ∙ fitting leaf
+    ap sum_of (sym e ∙ fitting leaf
     (record { left = rw left (simp length-drop (omega arith)); right = rw right (simp length-drop (omega arith)) }))
     ∙ rw (left, right)
 

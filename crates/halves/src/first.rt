@@ -8,8 +8,13 @@ use frame::{Cause, PART, Told, Way};
 use rules::Refusal;
 
 // Call 2 with the spectrum of call 1's window. Its own window replaces that window.
-fn analyse(share: &mut [f32], way: Way, window: &mut [f32], sums: &mut [f32]) -> Result<Told, Cause>
-    requires { (length share.old ≡ 3778) × (length window.old ≡ 960) × (length sums.old ≡ 22) }
+fn analyse(
+    share: &mut [f32],
+    way: Way,
+    window: &mut [f32; 960],
+    sums: &mut [f32],
+) -> Result<Told, Cause>
+    requires { (length share.old ≡ 3778) × (length sums.old ≡ 22) }
     ensures { Worked (analysed share.old way window.old (length sums.old))
         (as_reply result) share.new (sums.old ∷ []) (sums.new ∷ []) }
 {

@@ -12,8 +12,8 @@ use frame::{Cause, Hearing, PART, Told, Way};
 use rules::Refusal;
 
 // The spectrum of the window that call 2 gave, for the lag that the share keeps.
-fn look_back(spectrum: &mut [f32], share: &[f32], way: Way)
-    requires { (length spectrum.old ≡ 961) × (length share.now ≡ 3778) }
+fn look_back(spectrum: &mut [f32; 961], share: &[f32], way: Way)
+    requires { length share.now ≡ 3778 }
     ensures { spectrum.new ≡ forward_by way (looked_back share.now) }
 {
     let lag = finder::kept::whole_lag(share[3191]);
@@ -24,8 +24,8 @@ fn look_back(spectrum: &mut [f32], share: &[f32], way: Way)
 }
 
 // Call 4 with the inverse of what call 3 wrote.
-fn synthesise(share: &mut [f32], way: Way, spectrum: &[f32], out: &mut [f32])
-    requires { (length share.old ≡ 3778) × (length spectrum.now ≡ 961) × (length out.old ≡ 480) }
+fn synthesise(share: &mut [f32], way: Way, spectrum: &[f32; 961], out: &mut [f32])
+    requires { (length share.old ≡ 3778) × (length out.old ≡ 480) }
     ensures { Worked (call4 share.old (inverse_by way spectrum.now)
         (length out.old))
         Done share.new (out.old ∷ []) (out.new ∷ []) }

@@ -1,7 +1,6 @@
 // What a bench's way decides: which lag and which transforms.
 ghost use Rattle.std.specs.Prelude.{◌≡◌, length};
 ghost use Rattle.frame.specs.declared.Way.TheVariants.{Nnnoiseless};
-ghost use Rattle.transforms.specs.Transform.{ForwardFits, InverseFits};
 ghost use Rattle.halves.specs.Ways.{lag_by, remembered, forward_by, inverse_by};
 
 use frame::{Lag, Way};
@@ -32,8 +31,7 @@ pub(crate) fn lag(share: &mut [f32], way: Way) -> Lag
 
 // The spectrum of 960 samples.
 #[tactic(auto, using(rules::proofs::Refusals::left), unfolding(crate::specs::Ways::forward_by))]
-pub(crate) fn forward(out: &mut [f32], samples: &[f32], way: Way)
-    requires { ForwardFits (length out.old) (length samples.now) }
+pub(crate) fn forward(out: &mut [f32; 961], samples: &[f32; 960], way: Way)
     ensures { out.new ≡ forward_by way samples.now }
 {
     match way {
@@ -44,8 +42,7 @@ pub(crate) fn forward(out: &mut [f32], samples: &[f32], way: Way)
 
 // The samples of a spectrum.
 #[tactic(auto, using(rules::proofs::Refusals::left), unfolding(crate::specs::Ways::inverse_by))]
-pub(crate) fn inverse(out: &mut [f32], spectrum: &[f32], way: Way)
-    requires { InverseFits (length out.old) (length spectrum.now) }
+pub(crate) fn inverse(out: &mut [f32; 960], spectrum: &[f32; 961], way: Way)
     ensures { out.new ≡ inverse_by way spectrum.now }
 {
     match way {
