@@ -6,6 +6,9 @@
 //     Biquad                           the high-pass filter, in filter.rt
 //     narrow                           `x as f32` of an `f64`, from the bits
 //     sqrt                             the square root
+//
+// Stays: `max`, `min`, `clamp`, `size_of` and `sign_of` are not std's. The definitions `larger`, `smaller`, `clamped`,
+// `magnitude` and `sign_of` say which zero comes out and what a NaN gives, and they may not change.
 #![tactic(auto)]
 
 ghost use Rattle.std.specs.Prelude.{◌≡◌, ◌*◌, ◌^◌, ◌<◌, ◌≤◌, ◌||◌, pos};
