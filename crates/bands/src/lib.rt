@@ -3,6 +3,8 @@
 // Each leaf refuses lengths other than its arrays', and then changes nothing.
 // Stays: the loops of add_bins, compute_band_corr_core, fill_band, interp_band_gain_core and add_rows count bands, bins
 // or rows, and calculate with the count or hand it on. An iterator would give the same count, and is no plainer.
+// Stays: `i < 21` is asked by EdgeTable::band, add_bins and fill_band. The band's number is also the place of its sums,
+// so a `Band` that held it would need `start` and `size` as facts of it, and is no plainer than the three bounds.
 #![tactic(auto)]
 
 ghost use Rattle.std.specs.Prelude.{◌≡◌, ◌+◌, ◌-◌, ◌≤◌, ◌<◌, Ok, Err, length};

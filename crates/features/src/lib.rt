@@ -27,7 +27,8 @@ fn sound_of(e: f32) -> Option<f32>
     Some(e)
 }
 
-// The sum of the band energies. (`sum()` begins with -0.0.)
+// The sum of the band energies.
+// Stays: `sum()` begins with -0.0, and the definition `energy` with +0.0, which may not change.
 #[tactic(auto, using(rules::proofs::Loops::turns), unfolding(crate::specs::Silence::energy))]
 fn energy(ex: &[f32; 22]) -> f32
     ensures { result ≡ energy ex.now }
@@ -51,6 +52,8 @@ pub fn listen(ex: &[f32]) -> Result<Option<f32>, Refusal>
 
 // The features of a heard frame, and its normalised correlations. Its cepstrum becomes row `index` of the memory, which
 // has 8 rows of 22. `logs` are the logarithms of 0.01 + ex, and `lag` is how far p is behind x.
+// Stays: a public function keeps its parameters, here and in pitch_filter. The private functions hand them on, no two
+// of them the same ones, so a struct is no plainer.
 pub fn compute_features(
     features: &mut [f32],
     exp: &mut [f32],

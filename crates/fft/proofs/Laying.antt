@@ -1,5 +1,5 @@
--- A list of complex numbers that is filled four lanes at a time: `begun` shows `Laid` where a stage begins, `lay` adds
--- the bins of four lanes, row by row, and `laid_all` reads it after the last. Assumes nothing.
+-- A list of complex numbers that is filled four lanes at a time: `begun` shows `Laid` where a stage begins, `laid_bins`
+-- adds the bins of four lanes, row by row, and `laid_all` reads it after the last. Assumes nothing.
 use Rattle.std.specs.Prelude.{◌+◌, ◌-◌, ◌*◌, ◌/◌, ◌%◌, ◌≤◌, ◌<◌, ◌≡◌}
 use Rattle.rules.proofs.Common.{ℕ, zero, suc, cond, List, refl, sym, ap, ◌∙◌}
 use Rattle.rules.proofs.Common.{ltb, length, set, length-set}

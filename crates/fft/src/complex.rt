@@ -1,4 +1,6 @@
 // A complex number, and lists of 480 of them: 480 real parts, and then 480 imaginary parts.
+// Stays: `i < 480` and `k < 480`, and that k is not 0, are asked here, in forwards and in inverses, of numbers that are
+// calculated with (480 - k, 2 * k - 1). A type for them would be made and opened at each call, and is no plainer.
 ghost use Rattle.std.specs.Prelude.{◌≡◌, ◌+◌, ◌≤◌, ◌<◌, length};
 ghost use Rattle.rules.specs.F32.{◌⊕◌, ◌⊖◌, ◌⊗◌};
 ghost use Rattle.fft.specs.Fast.{complex_at, turned_back};
@@ -107,6 +109,7 @@ pub(crate) fn turned(c: &[f32; 960], z: &[f32; 960], i: usize, t: usize) -> Cx
 }
 
 // Stores four neighbouring numbers.
+// Stays: four stores in a row, as in their definition. An array made to be copied is no plainer.
 #[tactic(auto, unfolding(crate::specs::Private::put_four))]
 pub(crate) fn put_four(out: &mut [f32], at: usize, a: f32, b: f32, c: f32, d: f32)
     requires { at + 4 ≤ length out.old }

@@ -1,5 +1,6 @@
 // What comes before and after the complex transform in the forward transform: samples in, bins out.
-// Stays: the loops of pack and middle_bins: their numbers are counted with, to say where a four begins.
+// Stays: the loops of pack and middle_bins. Their numbers are counted with, to say where a four begins, so an iterator
+// is no plainer.
 ghost use Rattle.std.specs.Prelude.{◌≡◌, ◌+◌, ◌*◌, ◌-◌, ◌≤◌, ◌<◌, length};
 ghost use Rattle.rules.specs.Tab.{tab};
 ghost use Rattle.fft.specs.Fast.{pair, as_complex, split, bin_out, number_out};

@@ -1,5 +1,6 @@
 // What comes before and after the complex transform in the inverse transform: bins in, samples out.
-// Stays: the loops of other_blocks and samples: their numbers are counted with, to say where a four or a pair begins.
+// Stays: the loops of other_blocks and samples. Their numbers are counted with, to say where a four or a pair begins,
+// so an iterator is no plainer.
 ghost use Rattle.std.specs.Prelude.{◌≡◌, ◌+◌, ◌*◌, ◌-◌, ◌≤◌, ◌<◌, length};
 ghost use Rattle.rules.specs.Tab.{tab};
 ghost use Rattle.fft.specs.Fast.{bin_in, merged, merged_at, merged_of, sample_out};

@@ -1,6 +1,8 @@
 // The forward and the inverse 960-point real transforms of `transforms`, but fast: through a complex transform of 480
 // numbers in stages (stages), with the one table of 960 cosines. Without rounding they would be the plain sums of
 // `transforms`. Both refuse other lengths than those of their arrays as WrongLength, and then change nothing.
+// Stays: forward and inverse have the shape of those of `transforms`. All four are public and keep their names, and
+// they share no more than the test of the lengths.
 #![tactic(auto)]
 
 ghost use Rattle.std.specs.Prelude.{◌≡◌, length, Ok, Err};

@@ -2,7 +2,13 @@
 // computed before anything is stored, so that the compiler uses vector instructions for the four. A turn of the loop
 // does several fours, so that there are fewer than 16 turns. With more, the compiler would vectorise over four turns
 // instead, with gathers, and lose a quarter of the speed.
-// Stays: the loops of the stages, stage5 to last_stage: their numbers are counted with, to say where a four begins.
+// Stays: the loops of stage5 to last_stage. Their numbers are counted with, to say where a four begins, so an iterator
+// is no plainer.
+// Stays: block5 to last_block are alike but for their lane, and so are the stages. A function that is handed a lane
+// would have to say for which numbers it may be called and what it gives, and is no plainer. forwards::pack_block and
+// inverses::merge_block are alike in the same way.
+// Stays: out, c and z go side by side through lanes, blocks and stages. From stage to stage what was written is read,
+// so a struct of them would be made anew for each, which is no plainer.
 ghost use Rattle.std.specs.Prelude.{◌≡◌, ◌+◌, ◌*◌, ◌/◌, ◌%◌, ◌≤◌, ◌<◌, length};
 ghost use Rattle.fft.specs.Fast.{complex_at, turned_back, of_four, row2, row3, row4, row5, stage, transformed};
 ghost use Rattle.fft.specs.Single.{single, of};

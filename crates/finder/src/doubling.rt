@@ -1,4 +1,6 @@
 // `remove_doubling` of pitch.rs: whether a half, a third, down to a fifteenth of the period found fits as well.
+// Stays: `2 ≤ k` and `k ≤ 15` are asked by shorten, second_place, carry, threshold_at and consider. k is multiplied,
+// divided by and looked up with, and the definitions take it as a number, so a type for it is no plainer.
 ghost use Rattle.std.specs.Prelude.{◌≡◌, ◌≤◌};
 ghost use Rattle.finder.specs.Doubling.{pitch_gain, product_at, yy_lookup, shortened, second_check, second_place};
 ghost use Rattle.finder.specs.Doubling.{continuity, threshold};
@@ -11,6 +13,8 @@ const SECOND_CHECK: [usize; 16] = [0, 0, 3, 2, 3, 2, 5, 2, 3, 2, 3, 2, 5, 2, 3, 
 
 // What each shorter period is held against: the period found, half of the last one, the last gain, the energy, and the
 // gain at the period found.
+// Stays: that `t0` is at most 383 is no fact of the struct, since specs/Doubling makes one of any `t0`, and may not
+// change.
 #[derive(Clone, Copy)]
 pub struct Asked {
     // The period that the search found, halved: `t0` of the text.

@@ -7,6 +7,7 @@ ghost use Rattle.finder.specs.Search.{pitch_search};
 use pitch_search::Pitches;
 
 // 2 where the peak of a, b and c in a row leans to c, 0 where it leans to a, and else 1.
+// Stays: a number, since it is added to a place. An enum would be turned into one each time, and is no plainer.
 #[tactic(auto, unfolding(crate::specs::Search::leaning))]
 pub(crate) fn lean(a: f32, b: f32, c: f32) -> usize
     ensures { result ≡ leaning a b c }

@@ -5,6 +5,7 @@ use std::io;
 use std::io::Read;
 
 // Prints the line of a layer: layer, inputs, neurons, activation, offset, length.
+// Stays: a number for the layer, as `model::line` takes it, whose parameters may not change.
 fn line(rt: &impl Print, bytes: &[u8], layer: usize) -> io::Result<()> {
     let row = model::line(bytes, layer);
     println!(rt;
@@ -14,6 +15,7 @@ fn line(rt: &impl Print, bytes: &[u8], layer: usize) -> io::Result<()> {
 }
 
 // Prints the size of a model and its six layers.
+// Stays: the loop counts the layers. Each one's number is asked for and printed, so no form is plainer.
 fn good(rt: &impl Print, bytes: &[u8]) -> io::Result<()> {
     println!(rt; "model {}", bytes.len())?;
     for layer in 0..6 {

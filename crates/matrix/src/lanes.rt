@@ -21,6 +21,7 @@ struct Four {
 }
 
 // Four times four neighbouring sums.
+// Stays: four names, as in `Four`. In an array each would be named by its place, which is no plainer.
 #[derive(Drop)]
 struct Sixteen {
     p: Four,
@@ -59,6 +60,8 @@ fn byte0(v: u32) -> f32
 }
 
 // The second byte.
+// Stays: a byte of `to_le_bytes` is no plainer in byte1 to byte3. byte1 wants the byte where it stands in the word,
+// and the contracts of byte2 and byte3 name the byte by the same division.
 fn byte1(v: u32) -> f32
     ensures { result ≡ of_byte (v / 256 % 256) }
 {
@@ -147,6 +150,7 @@ fn take_sixteen(out: &[f32], place: usize) -> Sixteen
 }
 
 // Stores four neighbouring numbers.
+// Stays: four stores in a row, as `store_four` has them. An array made to be copied is no plainer.
 fn give(to: &mut [f32], place: usize, a: f32, b: f32, c: f32, d: f32)
     requires { place + 4 ≤ length to.old }
     ensures { to.new ≡ store_four to.old place a b c d }
@@ -159,6 +163,8 @@ fn give(to: &mut [f32], place: usize, a: f32, b: f32, c: f32, d: f32)
 
 // All blocks of sixteen sums. They are stored in the order of the bytes: first those of the lowest byte of each word,
 // then those of the next.
+// Stays: the loops of blocks and ordered go from sixteen to sixteen by a place. It is the place in two slices, and in
+// blocks part of the offset, so with chunks of one slice it would still be needed, which is no plainer.
 fn blocks(
     kept: &mut [f32],
     out: &[f32],

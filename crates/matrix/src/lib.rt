@@ -46,6 +46,8 @@ impl<'a> SubMatrix<'a> {
 }
 
 // The same on a slice and the two numbers.
+// Stays: the product of SubMatrix::mul_add and sums::mul_add. All three are public, and a public function keeps its
+// name.
 pub fn mul_add_at(
     weights: &[u8],
     stride: usize,

@@ -33,7 +33,8 @@ fn add_two(out: &mut [f32], first: &[u8], x: f32, second: &[u8], y: f32)
 }
 
 // `mul_add` column by column, for lengths that fit.
-// Stays: two columns a turn, and their places reckoned from the turn's number; chunks of the input would still need it.
+// Stays: two columns a turn, and their places reckoned from the turn's number. Chunks of the input would still need it,
+// and are no plainer.
 fn columns(out: &mut [f32], weights: &[u8], stride: usize, offset: usize, input: &[f32])
     requires { MulAddFits (length out.old) (length weights.now) stride offset (length input.now) }
     ensures { out.new
@@ -66,6 +67,9 @@ fn wide_of(n: usize) -> usize
 }
 
 // `mul_add`: as many sums as there are lent places are computed sixteen at a time, and the others column by column.
+// Stays: weights, stride and offset go one by one through the private functions here and in lanes, as `mul_add` gets
+// them and as its definition names them. `both` and `blocks` change the offset on the way, so a struct of the three is
+// no plainer.
 fn both(
     out: &mut [f32],
     kept: &mut [f32],

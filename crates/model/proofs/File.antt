@@ -1,7 +1,7 @@
 -- A whole model file. Assumes nothing.
---     reads-back      six layers that fit and go together are read back from their file
---     writes-back     a file that reads is the bytes of its layers
---     same-layers     layers that share a file are the same
+--     reads_back      six layers that fit and go together are read back from their file
+--     writes_back     a file that reads is the bytes of its layers
+--     same_layers     layers that share a file are the same
 use Rattle.std.specs.Prelude.{◌∷◌, ◌++◌, ◌≡◌}
 use Rattle.rules.proofs.Common.{ℕ, false, not, List, [], refl, sym, ap, ◌∙◌, eqb, length}
 use mathlib.Core.List.{append-nil}

@@ -1,5 +1,5 @@
 -- Reading and writing are each the other's inverse, for one layer and for layers in a row. Assumes nothing.
---     layer-reads, row_reads     the bytes of layers that fit read as these layers, and nothing refuses them
+--     layer_reads, row_reads     the bytes of layers that fit read as these layers, and nothing refuses them
 --     layer_fits, row_fits       what nothing refuses is the bytes of its layers, and they fit
 use Rattle.std.specs.Prelude.{◌≤◌, ◌∷◌, ◌++◌, ◌≡◌}
 use Rattle.rules.proofs.Common.{ℕ, zero, suc, true≢false, List, [], refl, sym, ap, subst, ◌∙◌}

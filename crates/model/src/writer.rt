@@ -145,6 +145,8 @@ fn header_bytes(shapes: &[u32], first: usize) -> [u8; 3]
     ]
 }
 
+// Stays: a layer's arrays come one by one, here and in put_three, as `write` has them. A struct would be made there and
+// opened here, and put_three's contract would name its fields, which is no plainer.
 fn put_layer(
     out: &mut [u8],
     at: usize,

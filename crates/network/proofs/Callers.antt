@@ -1,7 +1,7 @@
 -- Laws of `computed`, for callers.
---     computed-wrong       where a length is wrong: 5, and all as it was
---     computed-misread     where the lengths fit and the model does not read: its number and layer, and all as it was
---     computed-done        where the lengths fit and the model reads: done, and what the six layers leave
+--     computed_wrong       where a length is wrong: 5, and all as it was
+--     computed_misread     where the lengths fit and the model does not read: its number and layer, and all as it was
+--     computed_done        where the lengths fit and the model reads: done, and what the six layers leave
 --     kept                 every buffer keeps its length
 --     answered             a refusal is 5, and a model's refusal one of its table
 -- Assumes nothing.

@@ -2,7 +2,7 @@
 --     fit_on, whole_of     the lengths fit exactly where the slice has 384 numbers
 --     side_by_side         the slice is its three states
 --     joined_in, parted    three slices that are joined in one, and taken out of it again
---     six-joined           what the layers leave, one after the other, is what the definition says
+--     six_joined           what the layers leave, one after the other, is what the definition says
 -- Assumes nothing.
 use Rattle.std.specs.Prelude.{◌+◌, ◌≤◌, ◌++◌, ◌≡◌}
 use Rattle.rules.proofs.Common.{ℕ, List, refl, sym, ap, ◌∙◌, length, take, drop, length-take}

@@ -160,6 +160,8 @@ fn gate_sums(out: &mut [f32], layer: Arrays<'_>, offset: usize, input: &[f32], s
 }
 
 // A GRU layer with lent places for its gates.
+// Stays: z, r and h are handed to this function alone, so a struct of the three would be opened where it arrives, and
+// is no plainer.
 pub(crate) fn gru(
     state: &mut [f32],
     z: &mut [f32],

@@ -83,6 +83,7 @@ pub fn gru(
 }
 
 // Why a frame is not computed.
+// Stays: two names rather than an Option of a `Misread`, since `None` would not say that a length is wrong.
 #[derive(Clone, Copy)]
 pub enum Unfit {
     // A length is wrong.

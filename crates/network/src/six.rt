@@ -1,5 +1,7 @@
 // The six layers of a model that reads. `model::place_in` gives the places of a layer's arrays in the bytes of the
 // model.
+// Stays: table, bytes, m and features go side by side from frame_in to the layers. In a struct, the contracts would
+// name each of them through its entry, as they do the arrays of layers::gru, and that is no plainer.
 ghost use Rattle.std.specs.Prelude.{◌≡◌, ◌++◌, ◌+◌, ◌≤◌, length, take};
 ghost use Rattle.model.specs.declared.Kind.TheVariants.{Dense, Gru};
 ghost use Rattle.model.specs.Reading.{Good};
@@ -132,6 +134,8 @@ fn voice_of(
 }
 
 // noise_gru. Its inputs are joined before its state is written.
+// Stays: denoise_of is alike, but its first part is one of `states`, which can't be lent beside them. One function of
+// both is no plainer.
 fn noise_of(
     states: &mut [f32],
     table: &Table,

@@ -10,6 +10,7 @@ ghost use Rattle.numbers.specs.Private.{memory_in};
 use rules::Refusal;
 
 // The coefficients of y[n] = x[n] + b0 * x[n-1] + b1 * x[n-2] - a0 * y[n-1] - a1 * y[n-2].
+// Stays: the names are those of the formula, and the definition `filter_step` reads them. An array is no plainer.
 #[derive(Clone, Copy)]
 pub struct Biquad {
     pub a0: f32,
@@ -19,6 +20,7 @@ pub struct Biquad {
 }
 
 // What goes from one sample, and from one call, to the next; zeros before the first.
+// Stays: the two are fed back in different ways, and other crates name them, so a pair in an array is no plainer.
 #[derive(Clone, Copy)]
 pub struct Memory {
     pub m0: f32,
@@ -28,6 +30,7 @@ pub struct Memory {
 // A memory within a call, each number an `f32` still: so a turn waits for no conversion of what the turn before it
 // kept.
 // Stays: a memory with its numbers' type as a parameter is no plainer, since every other crate means that of `f32`.
+// Its two names are those of `Memory`.
 #[derive(Clone, Copy)]
 struct Kept {
     m0: f64,

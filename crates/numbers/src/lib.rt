@@ -5,6 +5,9 @@
 //     lists                            the activations of each number of a list, over a table that is lent
 //     Biquad                           the high-pass filter, in filter.rt
 //     narrow, sqrt                     `x as f32` of an `f64`, and the square root, from the bits
+//
+// Stays: `max`, `min`, `clamp`, `size_of` and `sign_of` are not std's. The definitions `larger`, `smaller`, `clamped`,
+// `magnitude` and `sign_of` say which zero comes out and what a NaN gives, and they may not change.
 #![tactic(auto)]
 
 ghost use Rattle.std.specs.Prelude.{◌≡◌, ◌*◌, ◌^◌, ◌<◌, ◌≤◌, ◌||◌, pos};

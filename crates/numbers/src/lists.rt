@@ -1,6 +1,8 @@
 // The activations of each number of a list, in place, over a table that is lent: `table::all` is taken once for all
 // lists, since each mention of it fills it anew. The table is looked up number by number; what comes before that and
 // behind it are loops of their own, since these are vectorised.
+// Stays: a list and its spare room go side by side. places and entries write the room and read the list, and curves
+// writes the list and reads the room, so a struct of both is no plainer.
 ghost use Rattle.std.specs.Prelude.{◌≡◌, map, length};
 ghost use Rattle.std.specs.Float.Ieee.{Float};
 ghost use Rattle.rules.specs.F32.{at};

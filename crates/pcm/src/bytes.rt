@@ -21,6 +21,7 @@ fn unpack_core(out: &mut [f32], bytes: &[u8], format: Format, channels: usize, c
 }
 
 // Fills `out` with the samples of one channel. In `bytes` the channels take turns.
+// Stays: the format is a number, since a call from C gives one: the C interface.
 pub fn unpack(
     out: &mut [f32],
     bytes: &[u8],
@@ -53,9 +54,9 @@ fn pack_core(out: &mut [u8], samples: &[f32])
     ensures { out.new ≡ packed samples.now }
 {
     for (i, sample) in samples.iter().enumerate() {
-        let n = crate::nearest::nearest(*sample);
-        out[2 * i] = crate::nearest::byte_of(n, 0);
-        out[2 * i + 1] = crate::nearest::byte_of(n, 1);
+        let [low, high] = crate::nearest::nearest(*sample).to_le_bytes();
+        out[2 * i] = low;
+        out[2 * i + 1] = high;
     }
 }
 

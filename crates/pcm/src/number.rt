@@ -47,6 +47,7 @@ impl Format {
 }
 
 // The bytes of a sample in this format, or 0 if there is no such format.
+// Stays: the format is a number, since a call from C gives one: the C interface.
 pub fn width_of(format: u32) -> usize
     ensures { result ≡ width format }
 {
@@ -56,19 +57,12 @@ pub fn width_of(format: u32) -> usize
     }
 }
 
-// A byte as a number of 32 bits.
-fn wide(b: u8) -> u32
-    ensures { (result ≡ b) × (result < 256) }
-{
-    b as u32
-}
-
 // Two bytes from place a on, the low byte first.
 fn two(bytes: &[u8], a: usize) -> u32
     requires { a + 2 ≤ length bytes.now }
     ensures { (result ≡ two_bytes_at bytes.now a) × (result < 65536) }
 {
-    wide(bytes[a]) + 256 * wide(bytes[a + 1])
+    u16::from_le_bytes([bytes[a], bytes[a + 1]]) as u32
 }
 
 // Three bytes from place a on, the low byte first.
@@ -76,7 +70,7 @@ fn three(bytes: &[u8], a: usize) -> u32
     requires { a + 3 ≤ length bytes.now }
     ensures { (result ≡ three_bytes_at bytes.now a) × (result < 16777216) }
 {
-    two(bytes, a) + 65536 * wide(bytes[a + 2])
+    u32::from_le_bytes([bytes[a], bytes[a + 1], bytes[a + 2], 0])
 }
 
 // Four bytes from place a on, the low byte first.
@@ -84,10 +78,11 @@ fn four(bytes: &[u8], a: usize) -> u32
     requires { a + 4 ≤ length bytes.now }
     ensures { result ≡ four_bytes_at bytes.now a }
 {
-    three(bytes, a) + 16777216 * wide(bytes[a + 3])
+    u32::from_le_bytes([bytes[a], bytes[a + 1], bytes[a + 2], bytes[a + 3]])
 }
 
 // Two's complement: n if it is below `half`, and otherwise n minus twice `half`.
+#[tactic(auto, using(crate::proofs::Patterns::casts), unfolding(crate::specs::Pcm::signed))]
 fn signed(half: u32, n: u32) -> f32
     requires { (n < 2 * half) × (half ≤ 8388608) }
     ensures { result ≡ signed half n }
@@ -125,6 +120,7 @@ fn clipped(y: f32, low: f32, high: f32) -> f32
 }
 
 // A whole number of 32 bits divided by 65,536: the upper two bytes are the whole part, and the lower two the fraction.
+#[tactic(auto, using(crate::proofs::Patterns::casts), unfolding(crate::specs::Pcm::halves))]
 fn halves(bytes: &[u8], a: usize) -> f32
     requires { a + 4 ≤ length bytes.now }
     ensures { result ≡ halves bytes.now a }

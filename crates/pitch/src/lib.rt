@@ -135,6 +135,8 @@ pub fn lpc(lpc: &mut [f32], ac: &[f32]) -> Result<(), Refusal>
 }
 
 // The correlation at one lag, summed from -0.0 as an iterator sums it.
+// Stays: `lanes::corr_lags` starts from +0.0. Which lags start from which zero is said by the definition `lag_of`,
+// which may not change.
 fn corr1(xs: &[f32], ys: &[f32], i: usize) -> f32
     requires { i + length xs.now ≤ length ys.now }
     ensures { result ≡ corr (neg (f32 0)) xs.now ys.now i }
@@ -147,6 +149,8 @@ fn corr1(xs: &[f32], ys: &[f32], i: usize) -> f32
 }
 
 // The lags from `from` on that are computed N at a time.
+// Stays: that the three lengths fit is asked by `xcorr_by`, `xcorr_rest` and `pitch_xcorr_core`. Two of the slices are
+// read and one is written, and all have any length, so a struct of the three is no plainer.
 fn xcorr_by<const N: usize>(xs: &[f32], ys: &[f32], xcorr: &mut [f32], from: usize)
     requires lengths_fit { XcorrFits (length xs.now) (length ys.now) (length xcorr.old) }
     requires fours { (0 < N) × (N % 4 ≡ 0) × (from % 4 ≡ 0) }

@@ -59,6 +59,8 @@ fn norm(ys: &[f32], len: usize) -> f32
 
 // What `find_best_pitch` carries from lag to lag, by the Rust's names. A correlation is compared as a fraction: its
 // square over the energy of the numbers that it was taken of.
+// Stays: the best and the second best are not a struct of their own, since the definitions of specs/Best read these
+// fields.
 #[derive(Clone, Copy)]
 pub struct Search {
     // The best lag's squared correlation.

@@ -75,6 +75,7 @@ impl<'a> Run<'a> {
 }
 
 // The sums of the bins that belong to k, k + 1, k + 2 and k + 3.
+// Stays: the run says by its own place whether samples are left, so a loop that counts beside it is no plainer.
 fn four_bins(x: &[f32; 960], table: &Cosines, k: usize) -> Sums
     requires { k < 124 }
     ensures { result ≡ sums_of (bin_part x.now 960) k }
@@ -90,7 +91,7 @@ fn four_bins(x: &[f32; 960], table: &Cosines, k: usize) -> Sums
 pub(crate) fn all_bins(parts: &mut [f32; 992], x: &[f32; 960], table: &Cosines)
     ensures { Keeps (bin_part x.now 960) 992 parts.new }
 {
-    // Stays: g is counted with, for the neighbours and for their place.
+    // Stays: g is counted with, for the neighbours and for their place, so an iterator is no plainer.
     for g in 0..31 {
         let s = four_bins(x, table, 4 * g);
         put(parts, 32 * g, s);
@@ -98,6 +99,7 @@ pub(crate) fn all_bins(parts: &mut [f32; 992], x: &[f32; 960], table: &Cosines)
 }
 
 // 1 for an imaginary part, 0 for a real one.
+// Stays: a number, since `bin_spot` adds it to that of a sum. An enum of the two parts is no plainer.
 fn part_of(j: usize) -> usize
     requires { j < 961 }
     ensures { (240 * result ≡ part_of j) × (result ≤ 1) }
@@ -106,6 +108,7 @@ fn part_of(j: usize) -> usize
 }
 
 // Where number j of the spectrum is kept.
+// Stays: each test goes on from the one before, so a match of ranges, with both ends of each, is no plainer.
 fn bin_spot(j: usize) -> usize
     requires { j < 961 }
     ensures { (result < 992) × ((x : List Float) → kept (bin_part x 960) result ≡ bin x (bin_of j) (part_of j)) }

@@ -17,6 +17,8 @@ pub(crate) struct Four {
 }
 
 // Eight sums for each of four neighbours.
+// Stays: each sum turns in a way of its own (bins and samples, add_terms), so in an array the places would only be
+// other names for them, which is no plainer.
 #[derive(Drop)]
 pub(crate) struct Sums {
     pub s0: Four,
@@ -67,6 +69,8 @@ pub(crate) fn times(v: f32, y: Four) -> Four
 
 // The next term of sums w quarters on, of the indices ahead: by the products p, and q a quarter on. The callers' w is
 // known when it is compiled.
+// Stays: w is calculated by the callers, here and in `back`, so an enum of four quarters would first have to be made of
+// it, and is no plainer.
 #[tactic(auto, unfolding(crate::specs::Private::plus_term))]
 pub(crate) fn ahead(s: Four, p: Four, q: Four, w: usize) -> Four
     ensures { result ≡ plus_term w s p q }
@@ -152,6 +156,8 @@ pub(crate) fn put(parts: &mut [f32; 992], at: usize, s: Sums)
 }
 
 // Where sum s of neighbour k is kept.
+// Stays: `k < 124` is asked here, and by Places::of_0, bins::Run::begin and bins::four_bins. A `Places` has it as a
+// fact, but these come before there is one, or need none, so one in place of k is no plainer.
 pub(crate) fn spot(s: usize, k: usize) -> usize
     requires { (s < 8) × (k < 124) }
     ensures { (result < 992) × ((f : ℕ → ℕ → Float) → kept f result ≡ f s k) }

@@ -2,6 +2,7 @@
 ghost use Rattle.std.specs.Prelude.{◌≡◌, ◌+◌, ◌*◌, ◌%◌, ◌<◌};
 
 // The places of k * n to (k + 3) * n in the turn of 960.
+// Stays: four names, as in lanes::Four, whose numbers they are the places of. An array is no plainer.
 #[derive(Clone, Copy)]
 pub(crate) struct Places {
     // The first of the four neighbours.

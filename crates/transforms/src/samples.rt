@@ -96,6 +96,7 @@ impl<'a> Run<'a> {
 }
 
 // The sums of the samples that belong to n, n + 1, n + 2 and n + 3.
+// Stays: the run says by its own place whether bins are left, so a loop that counts beside it is no plainer.
 fn four_samples(x: &[f32; 961], table: &Cosines, n: usize) -> Sums
     requires { n < 124 }
     ensures { result ≡ sums_of (whole_part x.now) n }
@@ -111,7 +112,7 @@ fn four_samples(x: &[f32; 961], table: &Cosines, n: usize) -> Sums
 pub(crate) fn all_samples(parts: &mut [f32; 992], x: &[f32; 961], table: &Cosines)
     ensures { Keeps (whole_part x.now) 992 parts.new }
 {
-    // Stays: g is counted with, for the neighbours and for their place.
+    // Stays: g is counted with, for the neighbours and for their place, so an iterator is no plainer.
     for g in 0..31 {
         let s = four_samples(x, table, 4 * g);
         put(parts, 32 * g, s);
@@ -119,6 +120,7 @@ pub(crate) fn all_samples(parts: &mut [f32; 992], x: &[f32; 961], table: &Cosine
 }
 
 // Where sample n is kept.
+// Stays: each test goes on from the one before, so a match of ranges, with both ends of each, is no plainer.
 fn sample_spot(n: usize) -> usize
     requires { n < 960 }
     ensures { (result < 992) × ((x : List Float) → kept (whole_part x) result ≡ sample x n) }
