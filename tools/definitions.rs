@@ -150,6 +150,11 @@ fn blocks(text: &str) -> Vec<Block> {
     blocks
 }
 
+/// What an `impl` of a trait says of itself, as `ghost try_from_gives = { .. };`.
+fn is_ghost_member(line: &str) -> bool {
+    line.starts_with("ghost ") && !line.starts_with("ghost use ")
+}
+
 /// The contracts of the public functions of a source file.
 fn contracts(text: &str) -> String {
     let mut found = String::new();
@@ -163,7 +168,7 @@ fn contracts(text: &str) -> String {
             found.push_str(before.split("fn ").next().unwrap_or(""));
             found.push_str(behind);
             found.push('\n');
-        } else if head {
+        } else if head || is_ghost_member(start) {
             found.push_str(line);
             found.push('\n');
         }

@@ -92,6 +92,16 @@ fn functions_of(file: &Path) -> Vec<Function> {
     found
 }
 
+/// The parameters of a list: it is parted at the commas that stand within no brackets.
+fn parted(list: &str) -> Vec<&str> {
+    let mut depth = 0;
+    let is_between = |letter: char| {
+        depth += i32::from("(<[".contains(letter)) - i32::from(")>]".contains(letter));
+        letter == ',' && depth == 0
+    };
+    list.split(is_between).collect()
+}
+
 /// A function from its name on.
 fn function(file: &Path, krate: &str, within: String, head: &str) -> Function {
     let (name, rest) = head.split_once('(').expect("a function's parameters");
@@ -101,8 +111,7 @@ fn function(file: &Path, krate: &str, within: String, head: &str) -> Function {
         open == 0
     });
     let (inside, after) = rest.split_at(end.expect("the end of a function's parameters"));
-    // no type of a parameter has a comma
-    let parameters = inside.split(',').map(str::trim).filter(|one| !one.is_empty());
+    let parameters = parted(inside).into_iter().map(str::trim).filter(|one| !one.is_empty());
     let parameters = parameters.map(|one| one.split_once(':').unwrap_or((one, "")));
     Function {
         file: file.into(),

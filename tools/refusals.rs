@@ -81,6 +81,37 @@ fn refused_with() -> BTreeMap<u32, String> {
     found
 }
 
+/// `NoSuchSide` as `TUPPENCE_NO_SUCH_SIDE`.
+fn constant(variant: &str) -> String {
+    let mut name = String::from("TUPPENCE");
+    for letter in variant.chars() {
+        if letter.is_ascii_uppercase() {
+            name.push('_');
+        }
+        name.push(letter.to_ascii_uppercase());
+    }
+    name
+}
+
+/// Numbers of the page that are no variant of `Refusal`: 7 has two more numbers beside it, 40 is no refusal, and those
+/// from 101 on come from `libtuppence.so`.
+fn is_no_variant(number: u32) -> bool {
+    number == 7 || number == 40 || number > 100
+}
+
+/// Where the enum `Refusal` and the page's table differ in names or numbers.
+fn unlike_the_enum(rows: &[Refusal]) -> Vec<String> {
+    const ENUM: &str = "crates/rules/src/refusal.rt";
+    let text = read(Path::new(ENUM));
+    let variants = text.lines().filter_map(|line| line.trim().strip_suffix(',')?.split_once(" = "));
+    let in_code: BTreeSet<(String, u32)> =
+        variants.filter_map(|(name, number)| Some((constant(name), number.parse().ok()?))).collect();
+    let in_page = rows.iter().filter(|row| !is_no_variant(row.number));
+    let in_page: BTreeSet<(String, u32)> = in_page.map(|row| (row.constant.clone(), row.number)).collect();
+    let differing = in_code.symmetric_difference(&in_page);
+    differing.map(|(name, number)| format!("{ENUM} and {PAGE} differ in {name}, {number}")).collect()
+}
+
 /// Functions for C that the page names and the code does not have.
 fn unknown(page: &str) -> Vec<String> {
     let source: String = files(Path::new("crates/export/src"), "rt").iter().map(|path| read(path)).collect();
@@ -139,6 +170,7 @@ fn main() {
     let mut found = in_order(&rows);
     let numbers: BTreeSet<u32> = rows.iter().map(|row| row.number).collect();
     let unlisted = refused_with().into_iter().filter(|(number, _)| !numbers.contains(number));
+    found.extend(unlike_the_enum(&rows));
     found.extend(unlisted.map(|(number, path)| format!("{path}: refuses with {number}, which is not in {PAGE}")));
     found.extend(unknown(&page));
     found.extend(misquoted(&rows));

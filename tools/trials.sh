@@ -35,8 +35,8 @@ fresh() {
     rm -rf "$scratch/tree"
     mkdir -p "$scratch/tree/crates"
     ln -s "$scratch"/all/crates/* "$scratch/tree/crates"
-    rm "$scratch"/tree/crates/{checksum,export}
-    cp -al "$scratch"/all/crates/{checksum,export} "$scratch/tree/crates"
+    rm "$scratch"/tree/crates/{checksum,export,rules}
+    cp -al "$scratch"/all/crates/{checksum,export,rules} "$scratch/tree/crates"
     cp -al "$scratch"/all/{crates.txt,docs,tools,bindings,host,target} "$scratch/tree"
 }
 own() { cp "$1" "$1.own" && mv "$1.own" "$1"; }
@@ -142,6 +142,7 @@ number_not_listed() { sed -i '/^| 53 |/d' docs/REFUSALS.md; }
 box_says_otherwise() {
     replace "$(grep -rl 'a layer has no neurons' host/src)" 'a layer has no neurons' 'a layer is empty'
 }
+another_number_in_the_enum() { replace crates/rules/src/refusal.rt 'Closed = 3,' 'Closed = 10,'; }
 other_constant() { replace docs/REFUSALS.md '`TUPPENCE_CLOSED`' '`TUPPENCE_SHUT`'; }
 
 # ---- lines that are too long
@@ -202,6 +203,7 @@ quick() {
     trial not_listed 'does not list `crc32(before, bytes)`' not_listed public listed
     trial other_words 'of 15' other_words refusals
     trial number_not_listed 'refuses with 53' number_not_listed refusals
+    trial another_number_in_the_enum 'differ in TUPPENCE_CLOSED, 3' another_number_in_the_enum refusals
     trial box_says_otherwise 'of 15' box_says_otherwise refusals
     trial other_constant 'differ' other_constant header
     trial long_line 'shorten the new ones' long_line columns

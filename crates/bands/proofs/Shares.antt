@@ -1,5 +1,6 @@
 -- Bins are added to a band and the next. The code holds the two sums in locals, and the definition in their places: a
--- turn of the one is a turn of the other.
+-- turn of the one is a turn of the other. `bins` is what the loop over a band's bins is searched with, and
+-- `whole_bands` is what the loop over the bands is.
 -- Assumes nothing.
 use Rattle.std.specs.Prelude.{◌+◌, ◌-◌, ◌<◌, ◌≡◌}
 use Rattle.rules.proofs.Common.{ℕ, List, refl, sym, ◌∙◌, length, set, length-set, pos, Float}
@@ -8,8 +9,9 @@ use native.Mathlib.Omega.{arith}
 use lib.Seq.{get_or-set_same, get_or-set_other, set-get_or, set-set, set_comm}
 use lib.Ieee.{of_int, of_bits}
 use Rattle.rules.specs.Loop.{loop, range}
-use Rattle.rules.specs.F32.{◌⊕◌, ◌⊖◌, ◌⊗◌, ◌⊘◌, at, f32, zeros}
-use Rattle.rules.proofs.Loops.{range_after}
+use Rattle.rules.specs.F32.{◌⊕◌, ◌⊖◌, ◌⊗◌, ◌⊘◌, at, f32}
+use Rattle.rules.proofs.Loops.{range_after, turns}
+use Rattle.rules.proofs.Numbers.{casts}
 use Rattle.bands.specs.Bands.{edges, edge, added, frac, rest, bin_corr, corr_step, in_band}
 use Rattle.bands.proofs.Edges.{edges_rule}
 
@@ -68,5 +70,6 @@ module _ (x p out : List Float) where
   unfolding loop
   any_band i = range_after (corr_step x p i) 0 (edge (i + 1) - edge i) out (omega arith)
 
-pub zeros_of : (out : List Float) (n : ℕ) → length out ≡ n → zeros (length out) ≡ zeros n
-zeros_of out n e = rw e
+pub ruleset bins = (held_none, turn, casts, turns)
+
+pub ruleset whole_bands = (any_band, turns)

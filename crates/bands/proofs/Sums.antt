@@ -1,12 +1,12 @@
 -- The 22 sums of the DCT, row by row: none has a product yet, each gets its next one, and all are scaled.
 -- Assumes nothing.
 use Rattle.std.specs.Prelude.{◌+◌, ◌<◌, ◌≡◌}
-use Rattle.rules.proofs.Common.{ℕ, List, sym, ap, ◌∙◌, length, Float, nan}
+use Rattle.rules.proofs.Common.{ℕ, List, sym, ap, ◌∙◌, Float, nan}
 use Rattle.rules.specs.Loop.{loop}
 use Rattle.rules.specs.F32.{at, f32, zeros}
 use Rattle.rules.specs.Tab.{tab}
 use Rattle.rules.proofs.Loops.{more}
-use Rattle.rules.proofs.Lists.{length_tab, get_d_tab, tab_const, tab_same}
+use Rattle.rules.proofs.Lists.{get_d_tab, tab_const, tab_same}
 use Rattle.bands.specs.Dct.{dct_step, dct_sum, dct_scaled, dct_in}
 use Rattle.bands.specs.Private.{sums_after}
 
@@ -14,10 +14,6 @@ module _ (table x : List Float) where
   pub sums_none : zeros 22 ≡ sums_after table x 0
   unfolding sums_after loop
   sums_none = sym (tab_const 22 (f32 0))
-
-  pub sums_long : (j : ℕ) → length (sums_after table x j) ≡ 22
-  unfolding sums_after
-  sums_long j = length_tab 22 (λ i. loop j (dct_step table x i) (f32 0))
 
   sum_at : (j i : ℕ) → i < 22 → at (sums_after table x j) i ≡ loop j (dct_step table x i) (f32 0)
   unfolding sums_after

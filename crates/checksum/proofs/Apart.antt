@@ -1,7 +1,7 @@
 -- A register that goes through the same bytes as another stays apart from it. Assumes nothing.
 --     small        a register, and a checksum, has 32 bits
 --     same_end     of bytes that end alike, the checksums are equal only where those of what stands in front are
---     burst-seen   of bytes that differ in at most four neighbours, they are never equal
+--     burst_seen   of bytes that differ in at most four neighbours, they are never equal
 use Rattle.std.specs.Prelude.{◌+◌, ◌-◌, ◌*◌, ◌/◌, ◌%◌, ◌^◌, ◌≤◌, ◌<◌, ◌∷◌, ◌++◌, ◌≡◌}
 use Rattle.rules.proofs.Common.{ℕ, suc, Bool, List, [], refl}
 use Rattle.rules.proofs.Common.{sym, ap, ◌∙◌, eqb, ltb, length, get_or}

@@ -19,8 +19,8 @@ fn update(entries: &[u32; 256], start: u32, bytes: &[u8]) -> u32
     ensures { result ≡ crc start bytes.now }
 {
     let mut register = start;
-    for i in 0..bytes.len() {
-        let place = (register ^ wide(bytes[i])) % 256;
+    for byte in bytes {
+        let place = (register ^ wide(*byte)) % 256;
         register = entries[place as usize] ^ (register / 256);
     }
     register

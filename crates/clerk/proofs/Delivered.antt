@@ -1,5 +1,5 @@
 -- From the microphone to the clerk. Assumes nothing.
-use Rattle.std.specs.Prelude.{◌+◌, ◌*◌, ◌/◌, ◌^◌, ◌≤◌, ◌<◌, ◌∷◌, ◌≡◌}
+use Rattle.std.specs.Prelude.{◌*◌, ◌^◌, ◌<◌, ◌∷◌, ◌≡◌}
 use Rattle.rules.proofs.Common.{ℕ, List, [], refl, sym, ap, ap₂, ◌∙◌, length}
 use Rattle.rules.proofs.Common.{get_or, take, drop, Float}
 use native.Mathlib.Omega.{arith}
@@ -15,7 +15,7 @@ use Rattle.recording.specs.Recording.{entries_from, recording_bytes}
 use Rattle.recording.proofs.SaidBack.{length_entries}
 use Rattle.recording.proofs.Told.{told_only}
 use Rattle.recorder.specs.Recorder.{beginning, room_of}
-use Rattle.recorder.specs.Laws.{recording_of, IsGood, audio_of, given_records, Frames, taken_in, cleaned_of}
+use Rattle.recorder.specs.Laws.{recording_of, IsGood, audio_of, given_records, Frames, taken_in}
 use Rattle.recorder.proofs.Goods.{always_good, as_defined}
 use Rattle.recorder.proofs.Whole.{however_given}
 use Rattle.feed.specs.Feed.{Block, block_of, samples_of, frame_entries}

@@ -13,9 +13,9 @@ use borrow.Author.Tests.{eq-eqb, eqb-true}
 use Rattle.rules.specs.Place.{get}
 use Rattle.frame.specs.Effect.{Effect, refusal}
 use Rattle.frame.specs.Reply.{passed, one_more}
-use Rattle.frame.specs.declared.Reply.{Reply}
-use Rattle.frame.specs.declared.Reply.TheVariants.{Numbered, Refused}
-use Rattle.desk.specs.declared.Answer.{Answer}
+use Rattle.frame.specs.Reply.{Reply}
+use Rattle.frame.specs.Reply.{Numbered, Refused}
+use Rattle.desk.specs.Answer.{Answer}
 use Rattle.desk.specs.declared.Record.{Record}
 use Rattle.desk.specs.Gate.{gate, share_of}
 use Rattle.desk.specs.Desk.{Ask, call_of, reply_to, answered, on_share, admitted, desk}

@@ -14,14 +14,13 @@ use borrow.Author.Tests.{ltb-true, ltb-false, eqb-true, ne_eqb}
 use Rattle.rules.specs.Place.{get, put}
 use Rattle.rules.proofs.Places.{Within, length_get, length_put, get_put, get_put_apart, put_get, get_whole, put_whole}
 use Rattle.model.specs.Model.{read_of}
-use Rattle.model.specs.declared.Reading.{Reading}
-use Rattle.model.specs.declared.Reading.TheVariants.{Good, Refused as Unread}
+use Rattle.model.specs.Reading.{Reading, Good, Refused as Unread}
 use Rattle.frame.specs.Share.{SHARE}
 use Rattle.frame.specs.Effect.{Effect, refusal}
 use Rattle.frame.specs.Reply.{passed}
-use Rattle.frame.specs.declared.Reply.TheVariants.{Refused}
+use Rattle.frame.specs.Reply.{Refused}
 use Rattle.frame.specs.declared.Way.{Way}
-use Rattle.desk.specs.declared.Answer.{Answer}
+use Rattle.desk.specs.Answer.{Answer}
 use Rattle.desk.specs.declared.Record.{Record}
 use Rattle.desk.specs.Gate.{share_of, gate, in_range, all_zero, idle}
 use Rattle.desk.specs.Desk.{Ask, opening, call1, call2, call2_own, call3, call4, first_half, second_half, piece}

@@ -15,8 +15,8 @@ use Rattle.frame.specs.Reply.{passed}
 use Rattle.frame.specs.Share.{SHARE, PART}
 use Rattle.frame.specs.Effect.{Effect}
 use Rattle.frame.specs.Frame as frame
-use Rattle.frame.specs.declared.Reply.{Reply}
-use Rattle.frame.specs.declared.Reply.TheVariants.{Done}
+use Rattle.frame.specs.Reply.{Reply}
+use Rattle.frame.specs.Reply.{Done}
 use Rattle.frame.specs.declared.Way.{Way}
 use Rattle.frame.proofs.Cases.{call1_by}
 use Rattle.frame.proofs.Keeps.{call1_keeps, call3_keeps}
@@ -26,7 +26,7 @@ use Rattle.halves.specs.Ways.{forward_by, inverse_by}
 use Rattle.halves.proofs.Joined.{asked_first, second_half_is}
 use Rattle.halves.proofs.Sister.{call2_own_by}
 use Rattle.pieces.specs.Pieces.{frame_part, in_part}
-use Rattle.desk.specs.declared.Answer.{Answer}
+use Rattle.desk.specs.Answer.{Answer}
 use Rattle.desk.specs.declared.Record.{Record}
 use Rattle.desk.specs.Gate.{idle, in_range, is_due, refusals, gate, share_of}
 use Rattle.desk.specs.Desk.{Ask, call1, call2_own, call3, call4, first_half, second_half, call_of, next_due, advanced}

@@ -8,12 +8,11 @@ use native.Mathlib.Omega.{arith}
 use Rattle.rules.specs.Place.{get, put}
 use Rattle.rules.proofs.Places.{put_get, length_get, length_put}
 use Rattle.model.specs.Model.{read_of}
-use Rattle.model.specs.declared.Reading.{Reading}
-use Rattle.model.specs.declared.Reading.TheVariants.{Good, Refused as Unread}
+use Rattle.model.specs.Reading.{Reading, Good, Refused as Unread}
 use Rattle.frame.specs.Share.{SHARE}
 use Rattle.frame.specs.Effect.{Effect}
 use Rattle.frame.specs.Reply.{passed}
-use Rattle.frame.specs.declared.Reply.{Reply}
+use Rattle.frame.specs.Reply.{Reply}
 use Rattle.frame.proofs.Keeps.{Keeps, call1_keeps, call2_keeps, call3_keeps, call4_keeps}
 use Rattle.halves.proofs.Kept.{first_half_keeps, second_half_keeps}
 use Rattle.halves.proofs.Sister.{call2_own_keeps}

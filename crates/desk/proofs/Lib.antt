@@ -8,7 +8,7 @@ pub mod Noted
 mod Pieced
 pub mod Ranged
 pub mod Replies
+pub mod Results
 mod Serve
 pub mod Turned
-mod Twice
 pub mod Zeros

@@ -7,7 +7,7 @@ use Rattle.rules.proofs.Common.{ℕ, true, false, false≢true, List, refl, sym,
 use native.Mathlib.Omega.{arith}
 use Rattle.frame.specs.Reply.{passed}
 use Rattle.frame.specs.declared.Hearing.{Hearing}
-use Rattle.frame.specs.declared.Reply.{Reply}
+use Rattle.frame.specs.Reply.{Reply}
 use Rattle.frame.specs.declared.Way.{Way}
 use Rattle.pieces.specs.Pieces.{piece, resume}
 use Rattle.pieces.proofs.Accepted.{Piece, Resume}

@@ -8,11 +8,10 @@ use Rattle.rules.proofs.Common.{ℕ, false, List, [], refl, ap, ◌∙◌, lengt
 use Rattle.rules.specs.Place.{get, put}
 use Rattle.frame.specs.Written.{from, nothing, first_in}
 use Rattle.model.specs.Model.{read_of}
-use Rattle.model.specs.declared.Reading.{Reading}
-use Rattle.model.specs.declared.Reading.TheVariants.{Good, Refused as Unread}
+use Rattle.model.specs.Reading.{Reading, Good, Refused as Unread}
 use Rattle.model.proofs.Bounds.{refused_in}
-use Rattle.frame.specs.declared.Reply.{Reply}
-use Rattle.frame.specs.declared.Reply.TheVariants.{Done, Misread}
+use Rattle.frame.specs.Reply.{Reply}
+use Rattle.frame.specs.Reply.{Done, Misread}
 use Rattle.frame.specs.Effect.{Effect}
 use Rattle.frame.specs.Reply.{passed}
 use Rattle.frame.proofs.Done.{call3_no_out}

@@ -1,34 +1,41 @@
 -- The ways a call ends, once for every call.
---     turned-away     the gate refuses it
---     served          it gets through, and what is left of the share is what the call makes of it
---     framed          a call of a frame gets through, and was lent the frame's part alone
---     misread, wiped  an opening that gets through, whose model is refused or reads
+--     turned_away_lem     the gate refuses it
+--     served              it gets through, and what is left of the share is what the call makes of it
+--     framed              a call of a frame gets through, and was lent the frame's part alone
+--     misread, wiped      an opening that gets through, whose model is refused or reads
 -- Assumes nothing.
-use Rattle.std.specs.Prelude.{◌+◌, ◌-◌, ◌≡◌}
-use Rattle.rules.proofs.Common.{ℕ, Bool, true, false, cond, true≢false, false≢true, List, [], refl}
+use Rattle.std.specs.Prelude.{◌-◌, ◌≡◌, Result, Ok, Err, IsErrAnd}
+use Rattle.rules.proofs.Common.{ℕ, true, false, cond, true≢false, false≢true, List, [], refl}
 use Rattle.rules.proofs.Common.{sym, ap, ◌∙◌, length}
 use Rattle.rules.proofs.Common.{replicate, Float}
 use native.Mathlib.Nat.{add-sub_cancel_left, add-zero}
 use native.Mathlib.Omega.{arith}
-use borrow.Author.Tests.{eq-eqb, ne_eqb}
+use borrow.Author.Tests.{ne_eqb}
 use Rattle.rules.specs.F32.{f32, zeros}
 use Rattle.rules.specs.Place.{Place, get, put}
+use Rattle.rules.specs.Refusal.{refusal_number}
+use Rattle.rules.specs.declared.refusal.Refusal.{Refusal}
 use Rattle.frame.specs.Written.{onto}
 use Rattle.rules.proofs.Places.{put_get, put_in, get_get, length_get}
 use Rattle.model.specs.Model.{read_of}
-use Rattle.model.specs.declared.Reading.{Reading}
-use Rattle.model.specs.declared.Reading.TheVariants.{Good, Refused as Unread}
+use Rattle.model.specs.Reading.{Reading, Good, Refused as Unread}
 use Rattle.frame.specs.Share.{SHARE, PART}
 use Rattle.frame.specs.Effect.{Effect, Worked}
+use Rattle.frame.specs.declared.answer.Told.{Told}
+use Rattle.frame.specs.declared.answer.Cause.{Cause}
+use Rattle.frame.specs.declared.answer.Cause.TheVariants.{Plain}
 use Rattle.frame.specs.Reply.{passed}
-use Rattle.frame.specs.declared.Reply.{Reply}
+use Rattle.frame.specs.Reply.{Reply}
 use Rattle.frame.specs.declared.Way.{Way}
 use Rattle.pieces.specs.Pieces.{frame_part, in_part}
 use Rattle.desk.specs.declared.Record.{Record}
-use Rattle.desk.specs.declared.Answer.{Answer}
+use Rattle.desk.specs.Answer.{Answer, answer_of}
 use Rattle.desk.specs.Gate.{gate, share_of}
 use Rattle.desk.specs.Desk.{Ask, opening, call_of, started, answered, opened, on_share, desk}
-use Rattle.desk.specs.Private.{turned_away, opened_of}
+use Rattle.desk.specs.Private.{Lies, opened_of}
+use Rattle.desk.specs.declared.Share.{Share}
+use Rattle.rules.proofs.Numbered.{never_0}
+use Rattle.desk.proofs.Results.{done_passes, refused_fails}
 use Rattle.desk.proofs.Answered.{refused}
 use Rattle.desk.proofs.Turned.{through}
 
@@ -36,67 +43,68 @@ use Rattle.desk.proofs.Turned.{through}
 abbrev pub lent : ℕ → ℕ → Place
 lent start end = record { at = start; size = end - start }
 
--- where a side's share lies, and in front of it a frame's part
-abbrev pub Lies : ℕ → ℕ → ℕ → ℕ → Type 0
-Lies side start part end =
-    (start ≡ (share_of side).at) × (part ≡ (share_of side).at + PART) × (end ≡ (share_of side).at + SHARE)
-
-lent_share : (side start part end : ℕ) → Lies side start part end → lent start end ≡ share_of side
-lent_share side start part end e = rw (e.0, e.2, add-sub_cancel_left)
+lent_share : (side len : ℕ) (share : Share) → Lies side len share → lent share.start share.end ≡ share_of side
+lent_share side len share e = rw (e.start, e.end, add-sub_cancel_left)
 
 -- a frame's part, as a place of the store
 abbrev part_of : ℕ → Place
 part_of side = record { at = (share_of side).at; size = PART }
 
-lent_part : (side start part end : ℕ) → Lies side start part end → lent start part ≡ part_of side
-lent_part side start part end e = rw (e.0, e.1, add-sub_cancel_left)
+lent_part : (side len : ℕ) (share : Share) → Lies side len share → lent share.start share.part ≡ part_of side
+lent_part side len share e = rw (e.start, e.part, add-sub_cancel_left)
 
-module _ (benches side : ℕ) (b : Record) (store : List Float) (held : List (List Float)) (ask : Ask) (n : ℕ)
-    (r : Answer)
-    (e : n ≡ gate benches side b (length store) (call_of ask)) where
-  pub turned_away_lem : (n ≡ 0 → ⊥) → r ≡ turned_away b n → Worked (desk benches side b store ask) r store held held
+module _ (benches side : ℕ) (b : Record) (store : List Float) (held : List (List Float)) (ask : Ask) where
+  pub turned_away_lem : (refusal : Refusal) (result : Result (Told × Record) Cause)
+      → refusal_number refusal ≡ gate benches side b (length store) (call_of ask)
+      → IsErrAnd result (λ why. why ≡ Plain refusal)
+      → Worked (desk benches side b store ask) (answer_of b result) store held held
   unfolding desk
-  turned_away_lem h a =
-      rw (← e, ne_eqb n 0 h)
+  turned_away_lem refusal (Ok x) e w = absurd w
+  turned_away_lem refusal (Err why) e w =
+      rw (← e, ne_eqb (refusal_number refusal) 0 (never_0 refusal))
       (record {
-        answers = a ∙ ap (λ (x : Reply). record { reply = x; rec = b }) (sym (refused b ask n));
+        answers =
+            rw w (ap (λ (x : Reply). record { reply = x; rec = b }) (sym (refused b ask (refusal_number refusal))));
         keeps = sym (put_get (share_of side) store);
         writes = refl;
       })
 
-  abbrev share : List Float
-  share = get (share_of side) store
+  abbrev own : List Float
+  own = get (share_of side) store
 
-  past : {reply : Reply} {new : List Float} {out : List (List Float)} → n ≡ 0
-      → Worked (on_share b share ask) reply new held out → r ≡ answered b ask reply
-      → Worked (desk benches side b store ask) r (put (share_of side) store new) held out
-  unfolding desk
-  past z w a =
-      rw (← e, eq-eqb n 0 z)
-      (record {
-        answers = a ∙ ap (λ (x : Reply). answered b ask x) w.answers;
-        keeps = ap (put (share_of side) store) w.keeps;
-        writes = w.writes;
-      })
+  module _ {r : Answer} (z : 0 ≡ gate benches side b (length store) (call_of ask)) where
+    pub past : {reply : Reply} {new : List Float} {out : List (List Float)}
+        → Worked (on_share b own ask) reply new held out → r ≡ answered b ask reply
+        → Worked (desk benches side b store ask) r (put (share_of side) store new) held out
+    unfolding desk
+    past w a =
+        rw (← z)
+        (record {
+          answers = a ∙ ap (λ (x : Reply). answered b ask x) w.answers;
+          keeps = ap (put (share_of side) store) w.keeps;
+          writes = w.writes;
+        })
 
-  module _ {start part end : ℕ} {reply : Reply} {new : List Float} {out : List (List Float)} (z : n ≡ 0)
-      (lies : n ≡ 0 → Lies side start part end) where
-    pub served : Worked (on_share b (get (lent start end) store) ask) reply new held out → r ≡ answered b ask reply
-        → Worked (desk benches side b store ask) r (put (lent start end) store new) held out
-    served w a = let same = lent_share side start part end (lies z) in rw same (past z (rw same at w) a)
+    module _ {share : Share} {reply : Reply} {new : List Float} {out : List (List Float)}
+        (lies : Lies side (length store) share) where
+      pub served : Worked (on_share b (get (lent share.start share.end) store) ask) reply new held out
+          → r ≡ answered b ask reply
+          → Worked (desk benches side b store ask) r (put (lent share.start share.end) store new) held out
+      served w a = let same = lent_share side (length store) share lies in rw same (past (rw same at w) a)
 
-    -- f is what the call makes of the part that it is lent
-    pub framed : {f : Effect Reply} → Worked f reply new held out
-        → (get frame_part share ≡ get (lent start part) store → on_share b share ask ≡ in_part share f)
-        → r ≡ answered b ask reply → Worked (desk benches side b store ask) r (put (lent start part) store new) held out
-    framed w is a =
-        let t = through benches side b (length store) (call_of ask) (sym e ∙ z) in
-        let inside : get frame_part share ≡ get (part_of side) store =
-        rw add-zero at (get_get (share_of side) frame_part store (omega arith) (omega arith)) in
-        let same = lent_part side start part end (lies z) in
-        rw (same, ← put_in (share_of side) PART store new (omega arith) (omega arith))
-        (past {reply = reply} z (rw (is (inside ∙ ap (λ (p : Place). get p store) (sym same)))
-        (record { answers = w.answers; keeps = ap (put frame_part share) w.keeps; writes = w.writes })) a)
+      -- f is what the call makes of the part that it is lent
+      pub framed : {f : Effect Reply} → Worked f reply new held out
+          → (get frame_part own ≡ get (lent share.start share.part) store → on_share b own ask ≡ in_part own f)
+          → r ≡ answered b ask reply
+          → Worked (desk benches side b store ask) r (put (lent share.start share.part) store new) held out
+      framed w is a =
+          let t = through benches side b (length store) (call_of ask) (sym z) in
+          let inside : get frame_part own ≡ get (part_of side) store =
+          rw add-zero at (get_get (share_of side) frame_part store (omega arith) (omega arith)) in
+          let same = lent_part side (length store) share lies in
+          rw (same, ← put_in (share_of side) PART store new (omega arith) (omega arith))
+          (past {reply = reply} (rw (is (inside ∙ ap (λ (p : Place). get p store) (sym same)))
+          (record { answers = w.answers; keeps = ap (put frame_part own) w.keeps; writes = w.writes })) a)
 
 -- what an opening makes of a model that is refused, and of one that reads
 kept : (read : Reading) (b : Record) (w : Way) (share : List Float) → passed (opened_of b w read).reply ≡ false
@@ -127,32 +135,37 @@ silent : (read : Reading) (share : List Float) → [] ≡ onto (opened share rea
 silent (Good m) share = refl
 silent (Unread n l) share = refl
 
-module _ (benches side : ℕ) (b : Record) (store : List Float) (w : Way) (m : List ℕ) (n : ℕ) (read : Reading)
-    (r : Answer) (p : Bool)
-    (e : n ≡ gate benches side b (length store) 0) (z : n ≡ 0) (d : read ≡ read_of m) (a : r ≡ opened_of b w read)
-    (q : p ≡ passed r.reply) where
+module _ (benches side : ℕ) (b : Record) (store : List Float) (w : Way) (m : List ℕ)
+    (z : 0 ≡ gate benches side b (length store) 0) where
   -- with the share as it was left
-  left_with : (new : List Float) → new ≡ (opened (get (share_of side) store) (read_of m)).kept
+  left_with : (r : Answer) → r ≡ opened_of b w (read_of m) → (new : List Float)
+      → new ≡ (opened (get (share_of side) store) (read_of m)).kept
       → Worked (desk benches side b store (opening w m)) r (put (share_of side) store new) [] []
-  left_with new f =
+  left_with r a new f =
       let share = get (share_of side) store in
-      past benches side b store [] (opening w m) n r e z
-      (record { answers = refl; keeps = f; writes = silent (read_of m) share })
-      (a ∙ ap (λ (x : Reading). opened_of b w x) d ∙ answers w m b share)
+      past benches side b store [] (opening w m) z
+      (record { answers = refl; keeps = f; writes = silent (read_of m) share }) (a ∙ answers w m b share)
 
-  pub misread : p ≡ false → Worked (desk benches side b store (opening w m)) r store [] []
-  misread h =
-      let no : passed (opened_of b w (read_of m)).reply ≡ false = rw (← d, ← a, ← q) h in
+  pub misread : (result : Result (Told × Record) Cause) (why : Cause) → IsErrAnd result (λ x. x ≡ why)
+      → answer_of b (Err why) ≡ opened_of b w (read_of m)
+      → Worked (desk benches side b store (opening w m)) (answer_of b result) store [] []
+  misread (Ok x) why e a = absurd e
+  misread (Err x) why e a =
+      let share = get (share_of side) store in
+      let no : passed (opened_of b w (read_of m)).reply ≡ false = rw (← a) (refused_fails why) in
       rw (put_get (share_of side) store) at
-      (left_with (get (share_of side) store) (sym (kept (read_of m) b w (get (share_of side) store) no)))
+      (left_with (answer_of b (Err x)) (rw e a) share (sym (kept (read_of m) b w share no)))
 
-  pub wiped : (start part end : ℕ) (new : List Float) → p ≡ true → (n ≡ 0 → Lies side start part end)
-      → new ≡ zeros (length (get (lent start end) store))
-      → Worked (desk benches side b store (opening w m)) r (put (lent start end) store new) [] []
-  wiped start part end new h place f =
-      let yes : passed (opened_of b w (read_of m)).reply ≡ true = rw (← d, ← a, ← q) h in
-      let t = through benches side b (length store) 0 (sym e ∙ z) in
+  pub wiped : (told : Told) (next : Record) {share : Share} → answer_of b (Ok (told, next)) ≡ opened_of b w (read_of m)
+      → Lies side (length store) share → (new : List Float)
+      → new ≡ zeros (length (get (lent share.start share.end) store))
+      → Worked (desk benches side b store (opening w m)) (answer_of b (Ok (told, next)))
+      (put (lent share.start share.end) store new) [] []
+  wiped told next {share} a lies new f =
+      let yes : passed (opened_of b w (read_of m)).reply ≡ true = rw (← a) (done_passes told) in
+      let t = through benches side b (length store) 0 (sym z) in
       let all = length_get (share_of side) store (omega arith) in
-      let same = lent_share side start part end (place z) in
+      let same = lent_share side (length store) share lies in
       let f' = rw (same, all) at f in
-      rw same (left_with new (f' ∙ sym (cleared (read_of m) b w (get (share_of side) store) yes)))
+      rw same (left_with (answer_of b (Ok (told, next))) a new
+      (f' ∙ sym (cleared (read_of m) b w (get (share_of side) store) yes)))

@@ -16,13 +16,12 @@ use Rattle.frame.specs.Written.{Written, from, nothing, first_in}
 use Rattle.rules.proofs.Places.{Within, length_get, get_put, get_put_apart}
 use Rattle.rules.proofs.Tests.{both}
 use Rattle.model.specs.Model.{read_of}
-use Rattle.model.specs.declared.Reading.{Reading}
-use Rattle.model.specs.declared.Reading.TheVariants.{Good, Refused as Unread}
+use Rattle.model.specs.Reading.{Reading, Good, Refused as Unread}
 use Rattle.frame.specs.Share.{SHARE, PART}
 use Rattle.frame.specs.Effect.{Effect}
 use Rattle.frame.specs.Reply.{passed}
-use Rattle.frame.specs.declared.Reply.{Reply}
-use Rattle.frame.specs.declared.Reply.TheVariants.{Done}
+use Rattle.frame.specs.Reply.{Reply}
+use Rattle.frame.specs.Reply.{Done}
 use Rattle.frame.specs.declared.Way.{Way}
 use Rattle.frame.proofs.Keeps.{Keeps, call1_keeps, call2_keeps, call3_keeps, call4_keeps}
 use Rattle.halves.specs.Halves as halves
@@ -34,7 +33,7 @@ use Rattle.pieces.proofs.Accepted.{piece_taken, resume_taken}
 use Rattle.pieces.proofs.Halved.{first_length}
 use Rattle.pieces.proofs.Padding.{padded_none}
 use Rattle.pieces.proofs.Shares.{length_padded, part_length, waiting_length, waits_length, waiting_back, frame_length}
-use Rattle.desk.specs.declared.Answer.{Answer}
+use Rattle.desk.specs.Answer.{Answer}
 use Rattle.desk.specs.declared.Record.{Record}
 use Rattle.desk.specs.Gate.{idle, under_way, in_pieces, in_range, is_due, gate, share_of}
 use Rattle.desk.specs.Desk.{Ask, opening, call1, call2, call2_own, call3, call4, first_half, second_half, piece}

@@ -7,13 +7,13 @@ use Rattle.frame.specs.Written.{Written, first_in}
 use Rattle.transforms.specs.Transform.{forward_of}
 use Rattle.model.specs.Model.{read_of}
 use Rattle.model.specs.declared.Model.{Model}
-use Rattle.model.specs.declared.Reading.TheVariants.{Good}
+use Rattle.model.specs.Reading.{Good}
 use Rattle.frame.specs.Share.{SHARE}
 use Rattle.frame.specs.Effect.{Effect}
 use Rattle.frame.specs.Reply.{passed}
 use Rattle.frame.specs.declared.Hearing.{Hearing}
-use Rattle.frame.specs.declared.Reply.{Reply}
-use Rattle.frame.specs.declared.Reply.TheVariants.{Done, Silent, Heard, Numbered, Refused, Misread}
+use Rattle.frame.specs.Reply.{Reply}
+use Rattle.frame.specs.Reply.{Done, Silent, Heard, Numbered, Refused, Misread}
 use Rattle.frame.specs.declared.Way.{Way}
 use Rattle.frame.specs.declared.Way.TheVariants.{Own}
 use Rattle.halves.specs.Halves.{looked_back}
@@ -22,7 +22,7 @@ use Rattle.pieces.specs.Pieces.{frame_part, waiting_in, padded_to}
 use Rattle.desk.specs.Gate.{share_of, in_range}
 use Rattle.desk.specs.Desk.{Ask, opening, call1, call2, call2_own, call3, call4, first_half, second_half, piece}
 use Rattle.desk.specs.Desk.{resume, call_of, closed, desk}
-use Rattle.desk.specs.declared.Answer.{Answer}
+use Rattle.desk.specs.Answer.{Answer}
 use Rattle.desk.specs.declared.Record.{Record}
 
 -- ---- one call

@@ -1,3 +1,4 @@
+pub mod Answer
 pub mod Gate
 pub mod Desk
 pub mod Surface

@@ -1,34 +1,33 @@
 -- For the contracts of private functions.
-use Rattle.std.specs.Prelude.{◌+◌, ◌-◌, ◌≤◌, ◌≡◌}
+use Rattle.std.specs.Prelude.{◌+◌, ◌-◌, ◌≤◌, ◌≡◌, Result, IfOk}
 use Rattle.rules.specs.Common.{ℕ, cond}
-use Rattle.model.specs.declared.Reading.{Reading}
-use Rattle.model.specs.declared.Reading.TheVariants.{Good, Refused as Unread}
+use Rattle.rules.specs.Refusal.{told}
+use Rattle.rules.specs.declared.refusal.Refusal.{Refusal}
+use Rattle.model.specs.Reading.{Reading, Good, Refused as Unread}
 use Rattle.frame.specs.Share.{SHARE, PART}
 use Rattle.frame.specs.Reply.{passed, one_more}
-use Rattle.frame.specs.declared.Reply.{Reply}
-use Rattle.frame.specs.declared.Reply.TheVariants.{Done, Numbered, Refused, Misread}
+use Rattle.frame.specs.Reply.{Reply}
+use Rattle.frame.specs.Reply.{Done, Numbered, Misread}
 use Rattle.frame.specs.declared.Way.{Way}
 use Rattle.desk.specs.Gate.{gate, share_of}
 use Rattle.desk.specs.Desk.{advanced, numbered, carried, started}
 use Rattle.desk.specs.declared.Record.{Record}
-use Rattle.desk.specs.declared.Answer.{Answer}
-use Rattle.desk.specs.declared.Admission.{Admission}
+use Rattle.desk.specs.Answer.{Answer}
+use Rattle.desk.specs.declared.Share.{Share}
 
--- The gate's number; and if it is 0, where the side's share begins, where the frame's part ends, and where
--- the share ends. The three places are in order in any case, so that slices can be taken.
-pub record Admits (benches side : ℕ) (rec : Record) (len call : ℕ) (a : Admission) : Type 0 where
-  pub number : a.number ≡ gate benches side rec len call
-  pub in_order : a.start ≤ a.part
-  pub within : a.part ≤ a.end
-  pub inside : a.end ≤ len
-  pub share : a.number ≡ 0
-      → (a.start ≡ (share_of side).at) × (a.part ≡ (share_of side).at + PART) × (a.end ≡ (share_of side).at + SHARE)
+-- Where a side's share lies, of which a frame's part is the front. It ends within the store.
+pub record Lies (side len : ℕ) (share : Share) : Type 0 where
+  pub start : share.start ≡ (share_of side).at
+  pub part : share.part ≡ (share_of side).at + PART
+  pub end : share.end ≡ (share_of side).at + SHARE
+  pub inside : share.end ≤ len
 
--- The answer of a call that the gate refuses; of calls 1 to 3; of call 4; of the first half; of the second
--- half.
-abbrev pub turned_away : Record → ℕ → Answer
-turned_away rec number = record { reply = Refused number; rec = rec }
+-- What the gate says, and the side's share where it lets the call through.
+pub record Admits (benches side : ℕ) (rec : Record) (len call : ℕ) (result : Result Share Refusal) : Type 0 where
+  pub gated : told result ≡ gate benches side rec len call
+  pub share : IfOk result (Lies side len)
 
+-- The answers of calls 1 to 3; of call 4; of the first half; of the second half.
 abbrev pub told_of : Record → Reply → Answer
 told_of rec reply = record { reply = reply; rec = cond (passed reply) (advanced rec reply) rec }
 

@@ -6,15 +6,15 @@ use Rattle.frame.specs.Written.{Written, all}
 use Rattle.frame.specs.Effect.{Effect}
 use Rattle.frame.specs.Reply.{passed}
 use Rattle.frame.specs.declared.Hearing.{Hearing}
-use Rattle.frame.specs.declared.Reply.{Reply}
-use Rattle.frame.specs.declared.Reply.TheVariants.{Done, Silent, Heard, Numbered, Refused, Misread}
+use Rattle.frame.specs.Reply.{Reply}
+use Rattle.frame.specs.Reply.{Done, Silent, Heard, Numbered, Refused, Misread}
 use Rattle.frame.specs.declared.Way.{Way}
 use Rattle.frame.specs.declared.Way.TheVariants.{Own, Nnnoiseless}
 use Rattle.desk.specs.Gate.{way_number}
 use Rattle.desk.specs.Desk.{Ask, opening, call1, call2, call2_own, call3, call4, first_half, second_half, piece}
 use Rattle.desk.specs.Desk.{resume, record_of, holding, no_hearing, desk}
 use Rattle.desk.specs.declared.Record.{Record}
-use Rattle.desk.specs.declared.Answer.{Answer}
+use Rattle.desk.specs.Answer.{Answer}
 
 -- A host keeps a record as twelve numbers. The last one says to which bench the record belongs.
 abbrev pub RECORD : ℕ

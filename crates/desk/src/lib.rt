@@ -2,19 +2,23 @@
 // changes nothing.
 #![tactic(auto)]
 
-ghost use Rattle.std.specs.Prelude.{◌≡◌, ◌≤◌, true, [], ◌∷◌, length};
+ghost use Rattle.std.specs.Prelude.{◌≡◌, ◌≤◌, [], ◌∷◌, length, IfOk};
+ghost use Rattle.rules.specs.Refusal.{told};
 ghost use Rattle.desk.specs.Gate.{BENCHES, side_of, idle, way_number, all_zero, in_counts, resting, under_way};
 ghost use Rattle.desk.specs.Gate.{in_pieces, in_range, is_due, gate};
 ghost use Rattle.desk.specs.Desk.{opening, call1, call2, call2_own, call3, call4, first_half, second_half, piece};
 ghost use Rattle.desk.specs.Desk.{resume, record_of, holding, next_index, next_hearing, next_heard, next_due};
-ghost use Rattle.desk.specs.Desk.{numbered, carried, desk};
-ghost use Rattle.desk.specs.Private.{Admits, turned_away, told_of, told_fourth, told_first, told_second, told_piece};
-ghost use Rattle.desk.specs.Private.{told_resume, opened_of};
+ghost use Rattle.desk.specs.Desk.{advanced, numbered, carried, desk};
+ghost use Rattle.model.specs.Reading.{model_read};
+ghost use Rattle.desk.specs.Answer.{answer_of};
+ghost use Rattle.desk.specs.Private.{Admits, told_of, told_fourth, told_first, told_second, told_piece, told_resume};
+ghost use Rattle.desk.specs.Private.{opened_of};
+ghost use Rattle.frame.specs.Answer.{as_reply, reply_told};
 ghost use Rattle.frame.specs.Effect.{Worked};
-ghost use Rattle.frame.specs.Reply.{passed};
 
-use frame::{Hearing, Lag, Reply, Way};
-use model::Reading;
+use frame::{Cause, Hearing, Lag, Told, Way};
+use model::{Misread, Model};
+use rules::Refusal;
 
 // A side, which is a bench: 0 to 15, the even ones left and the odd ones right.
 #[derive(Clone, Copy)]
@@ -31,13 +35,6 @@ pub struct Record {
     pub waiting: usize,
     pub piece: usize,
     pub progress: usize,
-}
-
-// What a call gives back: its reply, and the record as it now stands.
-#[derive(Clone, Copy)]
-pub struct Answer {
-    pub reply: Reply,
-    pub rec: Record,
 }
 
 pub const BENCHES: usize = 16;
@@ -245,115 +242,82 @@ fn is_due(rec: Record, call: usize) -> bool
     idle(rec)
 }
 
-// Refusals 1 to 4, or 0: `call` is the call asked for, and 0 an opening.
-pub fn gate(side: Bench, rec: Record, len: usize, call: usize) -> u32
-    ensures { result ≡ gate BENCHES side.0 rec len call }
+// Refusals 1 to 4: `call` is the call asked for, and 0 an opening.
+pub fn gate(side: Bench, rec: Record, len: usize, call: usize) -> Result<(), Refusal>
+    ensures { told result ≡ gate BENCHES side.0 rec len call }
 {
     if side.0 >= BENCHES {
-        return 1;
+        return Err(Refusal::NoSuchSide);
     }
     if len != STORE {
-        return 2;
+        return Err(Refusal::OutOfRange);
     }
     if !in_range(rec) {
-        return 2;
+        return Err(Refusal::OutOfRange);
     }
     if call == 0 {
-        return 0;
+        return Ok(());
     }
     if rec.due == 0 {
-        return 3;
+        return Err(Refusal::Closed);
     }
     if !is_due(rec, call) {
-        return 4;
+        return Err(Refusal::NotDue);
     }
-    0
+    Ok(())
 }
 
-// The gate's number, and where the side's share lies in the store, a frame's part in front.
+// Where a side's share lies in the store, a frame's part in front.
 #[derive(Clone, Copy)]
-struct Admission {
-    number: u32,
+struct Share {
+    // Where both begin.
     start: usize,
+    // Where the frame's part ends.
     part: usize,
+    // Where the share ends.
     end: usize,
 }
 
-fn admit(side: Bench, rec: Record, len: usize, call: usize) -> Admission
+// The side's share, for a call that the gate lets through.
+fn admit(side: Bench, rec: Record, len: usize, call: usize) -> Result<Share, Refusal>
     ensures { Admits BENCHES side.0 rec len call result }
 {
-    let number = gate(side, rec, len, call);
-    if number != 0 {
-        return Admission {
-            number,
-            start: 0,
-            part: 0,
-            end: 0,
-        };
-    }
+    gate(side, rec, len, call)?;
     let start = side.0 * frame::SHARE;
-    Admission {
-        number,
+    Ok(Share {
         start,
         part: start + frame::PART,
         end: start + frame::SHARE,
+    })
+}
+
+// The cepstral index after a call: a heard frame moves it on, round and round.
+fn next_index(index: usize, told: Told) -> usize
+    ensures { result ≡ next_index index (reply_told told) }
+{
+    match told {
+        Told::Heard { .. } => if index < 7 { index + 1 } else { 0 },
+        Told::Done | Told::Silent | Told::Numbered { .. } => index,
     }
 }
 
-// The answer of a call that is turned away.
-fn turned_away(rec: Record, number: u32) -> Answer
-    ensures { result ≡ turned_away rec number }
+// What a bench needs to hear, after a call: its index, and what its opening noted.
+fn next_hearing(hearing: Hearing, told: Told) -> Hearing
+    ensures { result ≡ next_hearing hearing (reply_told told) }
 {
-    Answer {
-        reply: Reply::Refused(number),
-        rec,
-    }
-}
-
-// The cepstral index after a reply: a heard frame moves it on, round and round.
-fn next_index(index: usize, reply: Reply) -> usize
-    ensures { result ≡ next_index index reply }
-{
-    match reply {
-        Reply::Heard(_, _) => {
-            if index < 7 {
-                return index + 1;
-            }
-            0
-        }
-        Reply::Done => index,
-        Reply::Silent => index,
-        Reply::Numbered(_, _) => index,
-        Reply::Refused(_) => index,
-        Reply::Misread(_, _) => index,
-    }
-}
-
-// What a bench needs to hear, after a reply: its index, and what its opening noted.
-fn next_hearing(hearing: Hearing, reply: Reply) -> Hearing
-    ensures { result ≡ next_hearing hearing reply }
-{
-    let way = hearing.way;
     Hearing {
-        index: next_index(hearing.index, reply),
-        vad: hearing.vad,
-        noise: hearing.noise,
-        denoise: hearing.denoise,
-        way,
+        index: next_index(hearing.index, told),
+        ..hearing
     }
 }
 
-// The number of heard frames after a reply.
-fn next_heard(number: u32, reply: Reply) -> u32
-    ensures { result ≡ next_heard number reply }
+// The number of heard frames after a call.
+fn next_heard(number: u32, told: Told) -> u32
+    ensures { result ≡ next_heard number (reply_told told) }
 {
-    match reply {
-        Reply::Heard(_, _) => frame::one_more(number),
-        Reply::Done => number,
-        Reply::Silent => number,
-        Reply::Numbered(_, _) => number,
-        Reply::Refused(_) => number,
-        Reply::Misread(_, _) => number,
+    match told {
+        Told::Heard { .. } => frame::one_more(number),
+        Told::Done | Told::Silent | Told::Numbered { .. } => number,
     }
 }
 
@@ -367,70 +331,60 @@ fn next_due(call: usize) -> usize
     1
 }
 
-// The answer to a frame call: where its reply is no refusal, the following call is due.
-fn told(rec: Record, reply: Reply) -> Answer
-    ensures { result ≡ told_of rec reply }
+// The record after a call: the following call is due, and a heard frame is noted.
+fn advanced(rec: Record, told: Told) -> Record
+    ensures { result ≡ advanced rec (reply_told told) }
 {
-    if !frame::passed(reply) {
-        return Answer { reply, rec };
-    }
     let due = next_due(rec.due);
-    let hearing = next_hearing(rec.hearing, reply);
-    let heard = next_heard(rec.heard, reply);
-    Answer {
-        reply,
-        rec: record_of(due, hearing, rec.frame, heard),
-    }
+    let hearing = next_hearing(rec.hearing, told);
+    let heard = next_heard(rec.heard, told);
+    record_of(due, hearing, rec.frame, heard)
 }
 
 // The record after call 4, which ends a frame.
 fn numbered(rec: Record) -> Record
     ensures { result ≡ numbered rec }
 {
+    let due = next_due(rec.due);
     let hearing = rec.hearing;
-    record_of(
-        next_due(rec.due),
-        hearing,
-        frame::one_more(rec.frame),
-        rec.heard,
-    )
+    record_of(due, hearing, frame::one_more(rec.frame), rec.heard)
+}
+
+// The answer to a frame call: if it is done, the record moves on.
+fn told(rec: Record, outcome: Result<Told, Cause>) -> Result<(Told, Record), Cause>
+    ensures { answer_of rec result ≡ told_of rec (as_reply outcome) }
+{
+    let told = outcome?;
+    Ok((told, advanced(rec, told)))
 }
 
 // The answer to call 4: the frames and the heard frames, as they then stand.
-fn told_fourth(rec: Record, reply: Reply) -> Answer
-    ensures { result ≡ told_fourth rec reply }
+fn told_fourth(rec: Record, outcome: Result<Told, Cause>) -> Result<(Told, Record), Cause>
+    ensures { answer_of rec result ≡ told_fourth rec (as_reply outcome) }
 {
-    if !frame::passed(reply) {
-        return Answer { reply, rec };
-    }
-    Answer {
-        reply: Reply::Numbered(frame::one_more(rec.frame), rec.heard),
-        rec: numbered(rec),
-    }
+    outcome?;
+    let next = numbered(rec);
+    let told = Told::Numbered {
+        frames: next.frame,
+        heard: rec.heard,
+    };
+    Ok((told, next))
 }
 
 // The answer to a first half, which is two calls.
-fn told_first(rec: Record, reply: Reply) -> Answer
-    ensures { result ≡ told_first rec reply }
+fn told_first(rec: Record, outcome: Result<Told, Cause>) -> Result<(Told, Record), Cause>
+    ensures { answer_of rec result ≡ told_first rec (as_reply outcome) }
 {
-    let first = told(rec, reply);
-    let next = first.rec;
-    told(next, reply)
+    let told = outcome?;
+    Ok((told, advanced(advanced(rec, told), told)))
 }
 
-// The answer to a second half: its reply is call 3's, and call 4's numbers stand in the record.
-pub fn told_second(rec: Record, reply: Reply) -> Answer
-    ensures { result ≡ told_second rec reply }
+// The answer to a second half: it tells what call 3 tells, and call 4's numbers stand in the record.
+pub fn told_second(rec: Record, outcome: Result<Told, Cause>) -> Result<(Told, Record), Cause>
+    ensures { answer_of rec result ≡ told_second rec (as_reply outcome) }
 {
-    if !frame::passed(reply) {
-        return Answer { reply, rec };
-    }
-    let first = told(rec, reply);
-    let next = first.rec;
-    Answer {
-        reply,
-        rec: numbered(next),
-    }
+    let told = outcome?;
+    Ok((told, numbered(advanced(rec, told))))
 }
 
 // The record with so many samples of a piece of this size in no frame yet: they wait, or a frame is under way.
@@ -438,90 +392,76 @@ fn carried(rec: Record, rest: usize, size: usize, progress: usize) -> Record
     ensures { result ≡ carried rec rest size progress }
 {
     if rest < 480 {
-        return holding(1, rec, rest, 0, 0);
+        holding(1, rec, rest, 0, 0)
+    } else {
+        holding(3, rec, 0, size, progress)
     }
-    holding(3, rec, 0, size, progress)
 }
 
 // The answer to a piece of so many samples.
-fn told_piece(rec: Record, size: usize, reply: Reply) -> Answer
-    requires { passed reply ≡ true → (rec.waiting ≤ 479) × (size ≤ 4096) }
-    ensures { result ≡ told_piece rec size reply }
+fn told_piece(
+    rec: Record,
+    size: usize,
+    outcome: Result<Told, Cause>,
+) -> Result<(Told, Record), Cause>
+    requires { IfOk outcome (λ _. (rec.waiting ≤ 479) × (size ≤ 4096)) }
+    ensures { answer_of rec result ≡ told_piece rec size (as_reply outcome) }
 {
-    if !frame::passed(reply) {
-        return Answer { reply, rec };
-    }
-    Answer {
-        reply,
-        rec: carried(rec, rec.waiting + size, size, 480 - rec.waiting),
-    }
+    let told = outcome?;
+    Ok((
+        told,
+        carried(rec, rec.waiting + size, size, 480 - rec.waiting),
+    ))
 }
 
 // The answer to a resume of a piece of so many samples.
-fn told_resume(rec: Record, size: usize, reply: Reply) -> Answer
-    requires { passed reply ≡ true → (rec.progress ≤ size) × (size ≤ 4096) }
-    ensures { result ≡ told_resume rec size reply }
+fn told_resume(
+    rec: Record,
+    size: usize,
+    outcome: Result<Told, Cause>,
+) -> Result<(Told, Record), Cause>
+    requires { IfOk outcome (λ _. (rec.progress ≤ size) × (size ≤ 4096)) }
+    ensures { answer_of rec result ≡ told_resume rec size (as_reply outcome) }
 {
-    if !frame::passed(reply) {
-        return Answer { reply, rec };
-    }
-    let done = told_second(rec, reply);
-    let next = done.rec;
-    Answer {
-        reply,
-        rec: carried(next, size - rec.progress, size, rec.progress + 480),
-    }
+    let told = outcome?;
+    let next = numbered(advanced(rec, told));
+    Ok((
+        told,
+        carried(next, size - rec.progress, size, rec.progress + 480),
+    ))
 }
 
 // The answer to an opening, once the model is read.
-fn opened(rec: Record, way: Way, read: Reading) -> Answer
-    ensures { result ≡ opened_of rec way read }
+fn opened(rec: Record, way: Way, read: Result<Model, Misread>) -> Result<(Told, Record), Cause>
+    ensures { answer_of rec result ≡ opened_of rec way (model_read read) }
 {
-    match read {
-        Reading::Refused(number, layer) => Answer {
-            reply: Reply::Misread(number, layer),
-            rec,
-        },
-        Reading::Good(m) => Answer {
-            reply: Reply::Done,
-            rec: record_of(
-                1,
-                Hearing {
-                    index: 0,
-                    vad: m.vad_gru.neurons,
-                    noise: m.noise_gru.neurons,
-                    denoise: m.denoise_gru.neurons,
-                    way,
-                },
-                FIRST,
-                FIRST,
-            ),
-        },
-    }
+    let m = read?;
+    let hearing = Hearing {
+        index: 0,
+        vad: m.vad_gru.neurons,
+        noise: m.noise_gru.neurons,
+        denoise: m.denoise_gru.neurons,
+        way,
+    };
+    Ok((Told::Done, record_of(1, hearing, FIRST, FIRST)))
 }
 
 // An opening in a way: a model that reads wipes the side's share and makes call 1 due. It has no answer buffer.
-pub fn open(side: Bench, rec: Record, store: &mut [f32], way: Way, model: &[u8]) -> Answer
+pub fn open(
+    side: Bench,
+    rec: Record,
+    store: &mut [f32],
+    way: Way,
+    model: &[u8],
+) -> Result<(Told, Record), Cause>
     ensures { Worked
         (desk BENCHES side.0 rec store.old (opening way model.now))
-        result store.new [] [] }
+        (answer_of rec result) store.new [] [] }
 {
-    let Admission {
-        number,
-        start,
-        part: _,
-        end,
-    } = admit(side, rec, store.len(), 0);
-    if number != 0 {
-        return turned_away(rec, number);
-    }
-    let answer = opened(rec, way, model::read(model));
-    let reply = answer.reply;
-    if !frame::passed(reply) {
-        return answer;
-    }
-    rules::clear(&mut store[start..end]);
-    answer
+    let share = admit(side, rec, store.len(), 0)?;
+    let answer = opened(rec, way, model::read(model))?;
+    rules::clear(&mut store[share.start..share.end]);
+    Ok(answer)
 }
 
 // Call 1: 480 samples in, 960 windowed numbers written.
@@ -531,23 +471,15 @@ pub fn call1(
     store: &mut [f32],
     samples: &[f32],
     window: &mut [f32],
-) -> Answer
+) -> Result<(Told, Record), Cause>
     ensures { Worked
         (desk BENCHES side.0 rec store.old
         (call1 samples.now (length window.old)))
-        result store.new (window.old ∷ []) (window.new ∷ []) }
+        (answer_of rec result) store.new (window.old ∷ []) (window.new ∷ []) }
 {
-    let Admission {
-        number,
-        start,
-        part,
-        end: _,
-    } = admit(side, rec, store.len(), 1);
-    if number != 0 {
-        return turned_away(rec, number);
-    }
-    let reply = frame::call1(&mut store[start..part], samples, window);
-    told(rec, reply)
+    let share = admit(side, rec, store.len(), 1)?;
+    let outcome = frame::call1(&mut store[share.start..share.part], samples, window);
+    told(rec, outcome)
 }
 
 // Call 2: the first spectrum and a lag in, 960 windowed numbers and 22 sums written.
@@ -559,24 +491,22 @@ pub fn call2(
     lag: Lag,
     window: &mut [f32],
     sums: &mut [f32],
-) -> Answer
+) -> Result<(Told, Record), Cause>
     ensures { Worked
         (desk BENCHES side.0 rec store.old
         (call2 spectrum.now lag.0 (length window.old) (length sums.old)))
-        result store.new (window.old ∷ sums.old ∷ [])
+        (answer_of rec result) store.new (window.old ∷ sums.old ∷ [])
         (window.new ∷ sums.new ∷ []) }
 {
-    let Admission {
-        number,
-        start,
-        part,
-        end: _,
-    } = admit(side, rec, store.len(), 2);
-    if number != 0 {
-        return turned_away(rec, number);
-    }
-    let reply = frame::call2(&mut store[start..part], spectrum, lag, window, sums);
-    told(rec, reply)
+    let share = admit(side, rec, store.len(), 2)?;
+    let outcome = frame::call2(
+        &mut store[share.start..share.part],
+        spectrum,
+        lag,
+        window,
+        sums,
+    );
+    told(rec, outcome)
 }
 
 // Call 2 with our own lag, found in the side's `input_mem`: the first spectrum in, 960 windowed numbers and 22 sums
@@ -588,24 +518,16 @@ pub fn call2_own(
     spectrum: &[f32],
     window: &mut [f32],
     sums: &mut [f32],
-) -> Answer
+) -> Result<(Told, Record), Cause>
     ensures { Worked
         (desk BENCHES side.0 rec store.old
         (call2_own spectrum.now (length window.old) (length sums.old)))
-        result store.new (window.old ∷ sums.old ∷ [])
+        (answer_of rec result) store.new (window.old ∷ sums.old ∷ [])
         (window.new ∷ sums.new ∷ []) }
 {
-    let Admission {
-        number,
-        start,
-        part,
-        end: _,
-    } = admit(side, rec, store.len(), 2);
-    if number != 0 {
-        return turned_away(rec, number);
-    }
-    let reply = halves::call2_own(&mut store[start..part], spectrum, window, sums);
-    told(rec, reply)
+    let share = admit(side, rec, store.len(), 2)?;
+    let outcome = halves::call2_own(&mut store[share.start..share.part], spectrum, window, sums);
+    told(rec, outcome)
 }
 
 // Call 3: the second spectrum, 22 logarithms and the model in, 961 numbers written; silent, or heard with voice and
@@ -618,30 +540,22 @@ pub fn call3(
     logs: &[f32],
     model: &[u8],
     out: &mut [f32],
-) -> Answer
+) -> Result<(Told, Record), Cause>
     ensures { Worked
         (desk BENCHES side.0 rec store.old
         (call3 spectrum.now logs.now model.now (length out.old)))
-        result store.new (out.old ∷ []) (out.new ∷ []) }
+        (answer_of rec result) store.new (out.old ∷ []) (out.new ∷ []) }
 {
-    let Admission {
-        number,
-        start,
-        part,
-        end: _,
-    } = admit(side, rec, store.len(), 3);
-    if number != 0 {
-        return turned_away(rec, number);
-    }
-    let reply = frame::call3(
-        &mut store[start..part],
+    let share = admit(side, rec, store.len(), 3)?;
+    let outcome = frame::call3(
+        &mut store[share.start..share.part],
         rec.hearing,
         spectrum,
         logs,
         model,
         out,
     );
-    told(rec, reply)
+    told(rec, outcome)
 }
 
 // Call 4: 960 inverse samples in, 480 numbers written; the frames and the heard frames so far.
@@ -651,23 +565,15 @@ pub fn call4(
     store: &mut [f32],
     inverse: &[f32],
     out: &mut [f32],
-) -> Answer
+) -> Result<(Told, Record), Cause>
     ensures { Worked
         (desk BENCHES side.0 rec store.old
         (call4 inverse.now (length out.old)))
-        result store.new (out.old ∷ []) (out.new ∷ []) }
+        (answer_of rec result) store.new (out.old ∷ []) (out.new ∷ []) }
 {
-    let Admission {
-        number,
-        start,
-        part,
-        end: _,
-    } = admit(side, rec, store.len(), 4);
-    if number != 0 {
-        return turned_away(rec, number);
-    }
-    let reply = frame::call4(&mut store[start..part], inverse, out);
-    told_fourth(rec, reply)
+    let share = admit(side, rec, store.len(), 4)?;
+    let outcome = frame::call4(&mut store[share.start..share.part], inverse, out);
+    told_fourth(rec, outcome)
 }
 
 // The first half of a frame, calls 1 and 2: 480 samples in, 22 sums written.
@@ -677,25 +583,17 @@ pub fn first_half(
     store: &mut [f32],
     samples: &[f32],
     sums: &mut [f32],
-) -> Answer
+) -> Result<(Told, Record), Cause>
     ensures { Worked
         (desk BENCHES side.0 rec store.old
         (first_half samples.now (length sums.old)))
-        result store.new (sums.old ∷ []) (sums.new ∷ []) }
+        (answer_of rec result) store.new (sums.old ∷ []) (sums.new ∷ []) }
 {
-    let Admission {
-        number,
-        start,
-        part,
-        end: _,
-    } = admit(side, rec, store.len(), 1);
-    if number != 0 {
-        return turned_away(rec, number);
-    }
+    let share = admit(side, rec, store.len(), 1)?;
     let hearing = rec.hearing;
     let way = hearing.way;
-    let reply = halves::first_half(&mut store[start..part], way, samples, sums);
-    told_first(rec, reply)
+    let outcome = halves::first_half(&mut store[share.start..share.part], way, samples, sums);
+    told_first(rec, outcome)
 }
 
 // The second half of a frame, calls 3 and 4: 22 logarithms and the model in, 480 numbers written; silent, or heard with
@@ -707,23 +605,21 @@ pub fn second_half(
     logs: &[f32],
     model: &[u8],
     out: &mut [f32],
-) -> Answer
+) -> Result<(Told, Record), Cause>
     ensures { Worked
         (desk BENCHES side.0 rec store.old
         (second_half logs.now model.now (length out.old)))
-        result store.new (out.old ∷ []) (out.new ∷ []) }
+        (answer_of rec result) store.new (out.old ∷ []) (out.new ∷ []) }
 {
-    let Admission {
-        number,
-        start,
-        part,
-        end: _,
-    } = admit(side, rec, store.len(), 3);
-    if number != 0 {
-        return turned_away(rec, number);
-    }
-    let reply = halves::second_half(&mut store[start..part], rec.hearing, logs, model, out);
-    told_second(rec, reply)
+    let share = admit(side, rec, store.len(), 3)?;
+    let outcome = halves::second_half(
+        &mut store[share.start..share.part],
+        rec.hearing,
+        logs,
+        model,
+        out,
+    );
+    told_second(rec, outcome)
 }
 
 // A piece of dictation: 1 to 4,096 samples in. They wait, or 480 of those waiting and of them begin a frame, and 22
@@ -735,25 +631,24 @@ pub fn piece(
     samples: &[f32],
     out: &mut [f32],
     sums: &mut [f32],
-) -> Answer
+) -> Result<(Told, Record), Cause>
     ensures { Worked
         (desk BENCHES side.0 rec store.old
         (piece samples.now (length out.old) (length sums.old)))
-        result store.new (out.old ∷ sums.old ∷ []) (out.new ∷ sums.new ∷ []) }
+        (answer_of rec result) store.new (out.old ∷ sums.old ∷ []) (out.new ∷ sums.new ∷ []) }
 {
-    let Admission {
-        number,
-        start,
-        part: _,
-        end,
-    } = admit(side, rec, store.len(), PIECE);
-    if number != 0 {
-        return turned_away(rec, number);
-    }
+    let share = admit(side, rec, store.len(), PIECE)?;
     let hearing = rec.hearing;
     let way = hearing.way;
-    let reply = pieces::piece(&mut store[start..end], way, rec.waiting, samples, out, sums);
-    told_piece(rec, samples.len(), reply)
+    let outcome = pieces::piece(
+        &mut store[share.start..share.end],
+        way,
+        rec.waiting,
+        samples,
+        out,
+        sums,
+    );
+    told_piece(rec, samples.len(), outcome)
 }
 
 // A resume: the same piece, 22 logarithms and the model in. The frame under way is written to its place of the output;
@@ -767,24 +662,16 @@ pub fn resume(
     model: &[u8],
     out: &mut [f32],
     sums: &mut [f32],
-) -> Answer
+) -> Result<(Told, Record), Cause>
     ensures { Worked
         (desk BENCHES side.0 rec store.old
         (resume samples.now logs.now model.now (length out.old)
         (length sums.old)))
-        result store.new (out.old ∷ sums.old ∷ []) (out.new ∷ sums.new ∷ []) }
+        (answer_of rec result) store.new (out.old ∷ sums.old ∷ []) (out.new ∷ sums.new ∷ []) }
 {
-    let Admission {
-        number,
-        start,
-        part: _,
-        end,
-    } = admit(side, rec, store.len(), RESUME);
-    if number != 0 {
-        return turned_away(rec, number);
-    }
-    let reply = pieces::resume(
-        &mut store[start..end],
+    let share = admit(side, rec, store.len(), RESUME)?;
+    let outcome = pieces::resume(
+        &mut store[share.start..share.end],
         rec.hearing,
         rec.piece,
         rec.progress,
@@ -794,5 +681,5 @@ pub fn resume(
         out,
         sums,
     );
-    told_resume(rec, samples.len(), reply)
+    told_resume(rec, samples.len(), outcome)
 }

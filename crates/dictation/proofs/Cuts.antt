@@ -13,11 +13,9 @@ use Rattle.rules.specs.Place.{get, put}
 use Rattle.rules.proofs.Places.{length_put}
 use Rattle.frame.specs.Written.{Written, from, nothing, numbers_in, over, first_in}
 use Rattle.frame.proofs.Buffers.{over_none, over_next}
-use Rattle.desk.specs.declared.Answer.{Answer}
+use Rattle.desk.specs.Answer.{Answer}
 use Rattle.frame.specs.Effect.{Effect}
-use Rattle.frame.specs.declared.Reply.{Reply}
-use Rattle.frame.specs.declared.Reply.TheVariants.{Done}
-use Rattle.frame.specs.Reply.{passed}
+use Rattle.frame.specs.Reply.{Reply, Done, passed}
 use Rattle.frame.specs.Share.{SHARE}
 use Rattle.pieces.specs.Pieces.{waiting_in, waits, completes}
 use Rattle.pieces.proofs.Accepted.{Piece}

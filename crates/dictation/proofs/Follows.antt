@@ -10,7 +10,7 @@ use native.Mathlib.Omega.{arith}
 use Rattle.rules.specs.Place.{get, put}
 use Rattle.frame.specs.Written.{from, first_in}
 use Rattle.rules.proofs.Places.{get_put, put_put}
-use Rattle.desk.specs.declared.Answer.{Answer}
+use Rattle.desk.specs.Answer.{Answer}
 use Rattle.frame.specs.Effect.{Effect}
 use Rattle.frame.specs.Reply.{passed}
 use Rattle.frame.specs.Share.{SHARE, PART}

@@ -8,7 +8,7 @@ use mathlib.Core.List.{append_assoc}
 use lib.Seq.{take-append-le, drop-append-le}
 use Rattle.rules.specs.Place.{get, put}
 use Rattle.frame.specs.Written.{first_in}
-use Rattle.frame.specs.declared.Reply.{Reply}
+use Rattle.frame.specs.Reply.{Reply}
 use Rattle.frame.specs.Effect.{Effect}
 use Rattle.frame.specs.Share.{SHARE, PART}
 use Rattle.halves.specs.Halves.{first_half, second_half}

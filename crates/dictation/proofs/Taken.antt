@@ -12,11 +12,9 @@ use Rattle.rules.proofs.Common.{length-append, Float}
 use borrow.Author.Tests.{lt-ltb, le-ltb}
 use Rattle.rules.specs.Place.{get, put}
 use Rattle.frame.specs.Written.{Written, all, from, nothing, first_in}
-use Rattle.desk.specs.declared.Answer.{Answer}
+use Rattle.desk.specs.Answer.{Answer}
 use Rattle.frame.specs.Effect.{Effect}
-use Rattle.frame.specs.declared.Reply.{Reply}
-use Rattle.frame.specs.declared.Reply.TheVariants.{Done}
-use Rattle.frame.specs.Reply.{passed}
+use Rattle.frame.specs.Reply.{Reply, Done, passed}
 use Rattle.halves.specs.Halves.{first_half, second_half}
 use Rattle.pieces.specs.Pieces.{frame_part, waiting_in, waits, frame_at, further}
 use Rattle.pieces.specs.Pieces as pieces

@@ -4,7 +4,7 @@ use Rattle.rules.specs.Common.{ℕ, true, List, [], length, get_or, take, Float}
 use Rattle.frame.specs.Written.{nothing, numbers_in, over}
 use Rattle.frame.specs.Effect.{Effect}
 use Rattle.frame.specs.Reply.{passed}
-use Rattle.desk.specs.declared.Answer.{Answer}
+use Rattle.desk.specs.Answer.{Answer}
 use Rattle.desk.specs.declared.Record.{Record}
 use Rattle.desk.specs.Desk.{holding, piece, resume, desk}
 use Rattle.dictation.specs.Dictation.{Lent, Dictated, dictated}

@@ -5,10 +5,10 @@ use Rattle.rules.specs.Common.{ℕ, List, [], length, take, drop, Float}
 use Rattle.rules.specs.Place.{get, put}
 use Rattle.frame.specs.Written.{first_in}
 use Rattle.frame.specs.Effect.{Effect}
-use Rattle.frame.specs.declared.Reply.{Reply}
+use Rattle.frame.specs.Reply.{Reply}
 use Rattle.halves.specs.Halves.{first_half, second_half}
 use Rattle.pieces.specs.Pieces.{frame_part, waiting_in, waits}
-use Rattle.desk.specs.declared.Answer.{Answer}
+use Rattle.desk.specs.Answer.{Answer}
 use Rattle.desk.specs.declared.Record.{Record}
 use Rattle.desk.specs.Gate.{share_of}
 use Rattle.desk.specs.Desk.{holding, advanced, numbered}

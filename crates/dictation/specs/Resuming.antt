@@ -5,9 +5,8 @@ use Rattle.rules.specs.Place.{get}
 use Rattle.frame.specs.Written.{from, over}
 use Rattle.samples.specs.Samples.{good}
 use Rattle.model.specs.Model.{read_of}
-use Rattle.frame.specs.declared.Reply.TheVariants.{Done}
+use Rattle.frame.specs.Reply.{Done, passed}
 use Rattle.frame.specs.Frame.{counted, checked}
-use Rattle.frame.specs.Reply.{passed}
 use Rattle.frame.specs.Share.{SHARE}
 use Rattle.pieces.specs.Pieces.{waiting_in, completes, frame_at, waited_of}
 use Rattle.desk.specs.declared.Record.{Record}

@@ -1,9 +1,10 @@
 -- What a host's call comes to, once for every call, whatever gives its answer.
---     Sound, hands-back      an answer can be handed back as numbers
+--     Sound, hands_back      an answer can be handed back as numbers
+--     Handed                 it is handed back
 --     Telling                what is known of a call with three numbers besides, by the places of `out` that it is lent
---     three, told-three      it is lent `out`, or no place of it where `answer` has another length than three
+--     three, told_three      it is lent `out`, or no place of it where `answer` has another length than three
 -- Assumes nothing.
-use Rattle.std.specs.Prelude.{◌-◌, ◌≤◌, ◌<◌, ◌∷◌, ◌++◌, ◌≡◌}
+use Rattle.std.specs.Prelude.{◌-◌, ◌≤◌, ◌<◌, ◌∷◌, ◌++◌, ◌≡◌, Result, Ok, Err}
 use Rattle.rules.proofs.Common.{ℕ, suc, Bool, true, false, cond, false≢true, List, []}
 use Rattle.rules.proofs.Common.{refl, sym, ap, ap₂, ◌∙◌, eqb, length}
 use Rattle.rules.proofs.Common.{drop, Float}
@@ -17,19 +18,19 @@ use Rattle.frame.specs.Written.{Written, all, onto}
 use Rattle.frame.proofs.Buffers.{onto_more, to_none}
 use Rattle.frame.specs.Effect.{Effect, Worked}
 use Rattle.frame.specs.Reply.{passed}
+use Rattle.frame.specs.declared.answer.Told.{Told}
+use Rattle.frame.specs.declared.answer.Cause.{Cause}
 use Rattle.desk.specs.declared.Record.{Record}
-use Rattle.desk.specs.declared.Answer.{Answer}
+use Rattle.desk.specs.Answer.{Answer, answer_of}
 use Rattle.desk.specs.Gate.{BENCHES, in_range}
-use Rattle.desk.specs.Surface.{RECORD, record_in, numbers_of, reply_number, heard_of, out_of, telling, handed}
+use Rattle.desk.specs.Surface.{RECORD, record_in, reply_number, heard_of, handed_back, out_of, telling, handed}
 use Rattle.desk.proofs.Ranged.{bounded}
-use Rattle.desk.proofs.Replies.{SmallSeven}
-use Rattle.export.specs.Private.{HandsBack}
+use Rattle.export.specs.Private.{reply_in, HandsBack}
 
 -- ---- the answer as numbers
 
 -- what is known of an answer to a call on this side, with this record
 pub record Sound (side : ℕ) (b : Record) (a : Answer) : Type 0 where
-  pub small : SmallSeven a.reply
   pub ranged : passed a.reply ≡ true → (in_range b ≡ true) × (in_range a.rec ≡ true)
   pub seated : passed a.reply ≡ true → side < BENCHES
 
@@ -42,17 +43,26 @@ all_places side ns e = go (eqb (length ns) RECORD) refl
     go true h = eqb-true (length ns) RECORD h
     go false h = absurd (false≢true (rw h at e))
 
-pub hands_back : (side : ℕ) (ns : List ℕ) (b : Record) {a given : Answer} → b ≡ record_in side ns → Sound side b a
-    → given ≡ a → HandsBack side ns given
-hands_back side ns b {a} {given} read sound e =
-    rw e
+pub same_reply : (rec : Record) (given : Result (Told × Record) Cause) → reply_in given ≡ (answer_of rec given).reply
+same_reply rec (Ok (told, next)) = refl
+same_reply rec (Err why) = refl
+
+pub hands_back : (side : ℕ) (ns : List ℕ) (b : Record) {a : Answer} (given : Result (Told × Record) Cause)
+    → b ≡ record_in side ns → Sound side b a → answer_of b given ≡ a
+    → HandsBack side ns (answer_of (record_in side ns) given)
+hands_back side ns b {a} given read sound e =
+    rw (← read, e)
     (record {
-      small = sound.small;
       fits =
           λ p.
           let r = sound.ranged p in
           (all_places side ns (rw read at r.0), bounded a.rec r.1, sound.seated p);
     })
+
+-- what the code hands back
+abbrev pub Handed : ℕ → List ℕ → Record → Result (Told × Record) Cause → ℕ → List ℕ → Type 0
+Handed side ns b given number ns' =
+    (number ≡ reply_number (answer_of b given).reply) × (ns' ≡ handed_back side (answer_of b given) ns)
 
 -- ---- a call with its answer as three numbers besides
 
@@ -103,31 +113,38 @@ joined false (w ∷ ws) held left told t t' l e f = absurd (omega arith)
 
 -- `others` are the buffers between `out` and `answer`
 module _ (side : ℕ) (ns : List ℕ) (store' : List Float) (give : ℕ → Effect Answer) (out answer new : List Float)
-    (others others' : List (List Float)) (given : Answer) (end : ℕ)
-    (known : Telling (suc (length others)) give) (ends : end ≡ out_of (length answer) (length out))
-    (served : Worked (give (length (get (up_to end) out))) given store' (get (up_to end) out ∷ others)
+    (others others' : List (List Float)) (b : Record) (given : Result (Told × Record) Cause) (end : ℕ)
+    (read : b ≡ record_in side ns) (known : Telling (suc (length others)) give)
+    (ends : end ≡ out_of (length answer) (length out))
+    (served : Worked (give (length (get (up_to end) out))) (answer_of b given) store' (get (up_to end) out ∷ others)
     (new ∷ others')) where
   -- of another length, the call is refused
-  shut : eqb (length answer) 3 ≡ false → passed given.reply ≡ false
+  shut : eqb (length answer) 3 ≡ false → passed (answer_of b given).reply ≡ false
   shut e =
       let z : end ≡ 0 = rw e at ends in
       let s = rw (z, empty out) at served in
       ap (λ (a : Answer). passed a.reply) s.answers ∙ known.no_place
 
-  pub three : passed given.reply ≡ true → length answer ≡ 3
+  pub three : passed (reply_in given) ≡ true → length answer ≡ 3
   three p = go (eqb (length answer) 3) refl
     where
       go : (t : Bool) → eqb (length answer) 3 ≡ t → length answer ≡ 3
       go true e = eqb-true (length answer) 3 e
-      go false e = absurd (false≢true (sym (shut e) ∙ p))
+      go false e = absurd (false≢true (sym (shut e) ∙ sym (ap passed (same_reply b given)) ∙ p))
 
   pub told_three : {number : ℕ} {ns' : List ℕ} {answer' : List Float} → length new ≡ length (get (up_to end) out)
-      → answer' ≡ cond (passed given.reply) (heard_of given.reply) answer
-      → (number ≡ reply_number given.reply) × (ns' ≡ cond (passed given.reply) (numbers_of side given.rec) ns)
+      → answer' ≡ cond (passed (reply_in given)) (heard_of (reply_in given)) answer
+      → Handed side ns (record_in side ns) given number ns'
       → Worked (handed side ns (telling (give (out_of (length answer) (length out))))) (number, ns') store'
       (out ∷ others ++ (answer ∷ [])) (put (up_to end) out new ∷ others' ++ (answer' ∷ []))
-  told_three {number} {ns'} {answer'} same told h = go (eqb (length answer) 3) refl
+  told_three {number} {ns'} {answer'} same said back = go (eqb (length answer) 3) refl
     where
+      told : answer' ≡ cond (passed (answer_of b given).reply) (heard_of (answer_of b given).reply) answer
+      told = rw (same_reply b given) at said
+
+      h : Handed side ns b given number ns'
+      h = rw (← read) at back
+
       go : (t : Bool) → eqb (length answer) 3 ≡ t
           → Worked (handed side ns (telling (give (out_of (length answer) (length out))))) (number, ns') store'
           (out ∷ others ++ (answer ∷ [])) (put (up_to end) out new ∷ others' ++ (answer' ∷ []))

@@ -1,4 +1,2 @@
-pub mod Answers
 mod Given
 mod Handed
-pub mod Networks

@@ -3,8 +3,7 @@ use Rattle.std.specs.Prelude.{◌≤◌}
 use Rattle.rules.specs.Common.{ℕ}
 use Rattle.rules.specs.Leaf.{◌leaving◌}
 use Rattle.network.specs.Compute.{Layered, Outcome}
-use Rattle.network.specs.declared.Computed.{Computed}
-use Rattle.network.specs.declared.Computed.TheVariants.{Done, Refused, Misread}
+use Rattle.network.specs.Computed.{Computed, Done, Refused, Misread}
 use Rattle.desk.specs.Surface.{seven_of}
 
 -- an activation is 0, 1 or 2

@@ -1,4 +1,5 @@
 // The static library for Rust and C: thin functions named `tuppence_…`, a module for each crate below.
+// Stays: the functions take and give numbers and slices, whose lengths they test: the C interface.
 #![tactic(auto)]
 
 pub mod of_bands;

@@ -6,6 +6,8 @@ ghost use Rattle.bands.specs.Bands.{band_corr, BandFits, band_gain, GainFits};
 ghost use Rattle.bands.specs.Dct.{dct_of, DctFits};
 ghost use Rattle.bands.specs.Windowed.{windowed, WindowFits};
 
+use rules::told;
+
 // The correlation of two spectra in 22 bands. `out` has 22 numbers, `x` and `p` have 961 each.
 #[unsafe(no_mangle)]
 pub extern "C" fn tuppence_band_corr(out: &mut [f32], x: &[f32], p: &[f32]) -> u32
@@ -14,7 +16,7 @@ pub extern "C" fn tuppence_band_corr(out: &mut [f32], x: &[f32], p: &[f32]) -> u
         (0 leaving band_corr x.now p.now)
         (5 leaving out.old) }
 {
-    bands::compute_band_corr(out, x, p)
+    told(bands::compute_band_corr(out, x, p))
 }
 
 // Spreads the gains of 22 bands over all frequency bins. `out` has 481 numbers, `bands` has 22.
@@ -25,7 +27,7 @@ pub extern "C" fn tuppence_band_gain(out: &mut [f32], bands: &[f32]) -> u32
         (0 leaving band_gain bands.now)
         (5 leaving out.old) }
 {
-    bands::interp_band_gain(out, bands)
+    told(bands::interp_band_gain(out, bands))
 }
 
 // The cosine transform of 22 numbers. `out` and `x` have 22 each.
@@ -36,7 +38,7 @@ pub extern "C" fn tuppence_dct(out: &mut [f32], x: &[f32]) -> u32
         (0 leaving dct_of x.now)
         (5 leaving out.old) }
 {
-    bands::dct(out, x)
+    told(bands::dct(out, x))
 }
 
 // Multiplies samples by the window. `out` and `x` have 960 numbers each.
@@ -47,7 +49,7 @@ pub extern "C" fn tuppence_window(out: &mut [f32], x: &[f32]) -> u32
         (0 leaving windowed x.now)
         (5 leaving out.old) }
 {
-    bands::apply_window(out, x)
+    told(bands::apply_window(out, x))
 }
 
 // The window in place: `xs` has 960 numbers.
@@ -58,5 +60,5 @@ pub extern "C" fn tuppence_window_in_place(xs: &mut [f32]) -> u32
         (0 leaving windowed xs.old)
         (5 leaving xs.old) }
 {
-    bands::apply_window_in_place(xs)
+    told(bands::apply_window_in_place(xs))
 }

@@ -10,52 +10,36 @@
 // another call is due; 5 another slice has a wrong length; 6 the lag is above 768; 7 the model does not read (7 +
 // 256 times the model's refusal + 65,536 times the layer); 8 the model has other GRU sizes than at the opening; 9 a
 // sample is not from -32,768 to 32,767.
-ghost use Rattle.std.specs.Prelude.{◌≡◌, true, cond, [], ◌∷◌, length, get_or, ◌<◌, eqb};
+ghost use Rattle.std.specs.Prelude.{◌≡◌, true, cond, [], ◌∷◌, length, ◌<◌};
+ghost use Rattle.frame.specs.Answer.{reply_refused};
 ghost use Rattle.frame.specs.Reply.{passed};
 ghost use Rattle.frame.specs.declared.Way.TheVariants.{Own, Nnnoiseless};
+ghost use Rattle.desk.specs.Answer.{answer_of};
 ghost use Rattle.desk.specs.Gate.{BENCHES, side_of};
 ghost use Rattle.desk.specs.Desk.{record_of, no_hearing, opening, call1, call2, call2_own, call3, call4, first_half};
 ghost use Rattle.desk.specs.Desk.{second_half, piece, resume};
 ghost use Rattle.frame.specs.Effect.{Worked};
-ghost use Rattle.desk.specs.Surface.{RECORD, bench_number, numbers_of, way_in, hearing_in, record_in, reply_number};
+ghost use Rattle.desk.specs.Surface.{RECORD, bench_number, numbers_of, way_in, record_in, reply_number, handed_back};
 ghost use Rattle.desk.specs.Surface.{heard_of, out_of, hosted, handed};
 ghost use Rattle.desk.proofs.Ranged.{Bounded};
-ghost use Rattle.desk.proofs.Replies.{SmallSeven};
-ghost use Rattle.export.specs.Private.{HandsBack};
+ghost use Rattle.export.specs.Private.{reply_in, HandsBack};
 
-use desk::{Answer, Bench, Record};
-use frame::{Hearing, Lag, Reply, Way};
+use desk::{Bench, Record};
+use frame::{Cause, Hearing, Lag, Told, Way};
+use whole::Three;
 
 // The length of a record.
 const RECORD: usize = 12;
 
-fn wide(x: u32) -> usize
-    ensures { result ≡ x }
-{
-    x as usize
-}
-
 // The way that a number means.
+#[tactic(auto, using(rules::proofs::Tests::tests))]
 fn way_in(number: u32) -> Way
     ensures { result ≡ way_in number }
 {
     if number == 0 {
-        return Way::Own;
-    }
-    Way::Nnnoiseless
-}
-
-// What a bench needs to hear a frame, from a record's numbers.
-fn hearing_in(record: &[u32]) -> Hearing
-    requires { length «record».now ≡ RECORD }
-    ensures { result ≡ hearing_in «record».now }
-{
-    Hearing {
-        index: wide(record[1]),
-        vad: wide(record[2]),
-        noise: wide(record[3]),
-        denoise: wide(record[4]),
-        way: way_in(record[10]),
+        Way::Own
+    } else {
+        Way::Nnnoiseless
     }
 }
 
@@ -74,98 +58,101 @@ fn no_record() -> Record
 }
 
 // The last number of a record: the bench's number plus 1 if the record is open, and 0 if it is closed.
+#[tactic(auto, using(rules::proofs::Tests::tests))]
 fn bench_number(side: u32, due: usize) -> usize
     ensures { result ≡ bench_number side due }
 {
-    if due == 0 {
-        return 0;
-    }
-    side as usize + 1
-}
-
-// Whether the last number of a record is the one of this bench.
-fn belongs(side: u32, record: &[u32]) -> bool
-    requires { length «record».now ≡ RECORD }
-    ensures { result ≡ eqb (get_or «record».now 11 0)
-        (bench_number side (get_or «record».now 0 0)) }
-{
-    let due = wide(record[0]);
-    wide(record[11]) == bench_number(side, due)
+    if due == 0 { 0 } else { side as usize + 1 }
 }
 
 // A bench's record from its numbers. If there are not twelve, or one of them is no way, or they are another bench's,
 // the record is out of range.
+#[tactic(auto, using(rules::proofs::Tests::tests), unfolding(desk::specs::Surface::record_in))]
 pub(crate) fn record_in(side: u32, record: &[u32]) -> Record
     ensures { result ≡ record_in side «record».now }
 {
-    if record.len() != RECORD {
+    let Some(numbers) = record.as_array::<RECORD>() else {
+        return no_record();
+    };
+    let [
+        due,
+        index,
+        vad,
+        noise,
+        denoise,
+        frame,
+        heard,
+        waiting,
+        piece,
+        progress,
+        way,
+        seat,
+    ] = *numbers;
+    if 1 < way || seat as usize != bench_number(side, due as usize) {
         return no_record();
     }
-    if record[10] > 1 {
-        return no_record();
-    }
-    if !belongs(side, record) {
-        return no_record();
-    }
-    let idle = desk::record_of(0, hearing_in(record), record[5], record[6]);
+    let hearing = Hearing {
+        index: index as usize,
+        vad: vad as usize,
+        noise: noise as usize,
+        denoise: denoise as usize,
+        way: way_in(way),
+    };
     desk::holding(
-        wide(record[0]),
-        idle,
-        wide(record[7]),
-        wide(record[8]),
-        wide(record[9]),
+        due as usize,
+        desk::record_of(0, hearing, frame, heard),
+        waiting as usize,
+        piece as usize,
+        progress as usize,
     )
 }
 
 // A bench's record as numbers.
-fn put_record(side: u32, record: &mut [u32], rec: Record)
-    requires { (length «record».old ≡ RECORD) × Bounded rec × (side < BENCHES) }
-    ensures { «record».new ≡ numbers_of side rec }
+fn numbers_of(side: u32, rec: Record) -> [u32; RECORD]
+    requires { Bounded rec × (side < BENCHES) }
+    ensures { result ≡ numbers_of side rec }
 {
-    record[0] = rec.due as u32;
-    record[1] = rec.hearing.index as u32;
-    record[2] = rec.hearing.vad as u32;
-    record[3] = rec.hearing.noise as u32;
-    record[4] = rec.hearing.denoise as u32;
-    record[5] = rec.frame;
-    record[6] = rec.heard;
-    record[7] = rec.waiting as u32;
-    record[8] = rec.piece as u32;
-    record[9] = rec.progress as u32;
     let hearing = rec.hearing;
-    let way = hearing.way;
-    record[10] = desk::way_number(way);
-    record[11] = bench_number(side, rec.due) as u32;
+    [
+        rec.due as u32,
+        hearing.index as u32,
+        hearing.vad as u32,
+        hearing.noise as u32,
+        hearing.denoise as u32,
+        rec.frame,
+        rec.heard,
+        rec.waiting as u32,
+        rec.piece as u32,
+        rec.progress as u32,
+        desk::way_number(hearing.way),
+        bench_number(side, rec.due) as u32,
+    ]
 }
 
-// A reply as a number: 0, or the refusal.
-fn number_of(reply: Reply) -> u32
-    requires { SmallSeven reply }
-    ensures { result ≡ reply_number reply }
+// The number of what refuses a call.
+fn number_of(cause: Cause) -> u32
+    ensures { result ≡ reply_number (reply_refused cause) }
 {
-    match reply {
-        Reply::Done => 0,
-        Reply::Silent => 0,
-        Reply::Heard(_, _) => 0,
-        Reply::Numbered(_, _) => 0,
-        Reply::Refused(number) => number,
-        Reply::Misread(number, layer) => crate::of_model::seven(number, layer),
+    match cause {
+        Cause::Plain(refusal) => refusal.number(),
+        Cause::Model(misread) => crate::of_model::seven(misread),
     }
 }
 
-// Writes back the record of a call that is done, and returns the reply's number. A refused call leaves the record.
-pub(crate) fn hand_back(side: u32, record: &mut [u32], given: Answer) -> u32
-    requires { HandsBack side «record».old given }
-    ensures { (result ≡ reply_number given.reply)
-        × («record».new ≡ cond (passed given.reply) (numbers_of side given.rec)
-        «record».old) }
+// Writes back the record of a call that is done, and returns 0 or the number of the refusal. A refused call leaves the
+// record.
+pub(crate) fn hand_back(side: u32, record: &mut [u32], given: Result<(Told, Record), Cause>) -> u32
+    requires { HandsBack side «record».old (answer_of (record_in side «record».old) given) }
+    ensures { (result ≡ reply_number (answer_of (record_in side «record».old) given).reply)
+        × («record».new ≡ handed_back side (answer_of (record_in side «record».old) given) «record».old) }
 {
-    let reply = given.reply;
-    if !frame::passed(reply) {
-        return number_of(reply);
+    match given {
+        Ok((_, rec)) => {
+            record.copy_from_slice(&numbers_of(side, rec));
+            0
+        }
+        Err(cause) => number_of(cause),
     }
-    put_record(side, record, given.rec);
-    number_of(reply)
 }
 
 // The side of a bench: 0 (left) for an even number, 1 (right) for an odd one.
@@ -309,28 +296,27 @@ pub extern "C" fn tuppence_call2_own(
 }
 
 // Writes the answer of call 3, of the second half or of a resume as three numbers, if the call is done.
-pub(crate) fn tell(answer: &mut [f32], reply: Reply)
-    requires { passed reply ≡ true → length answer.old ≡ 3 }
-    ensures { answer.new ≡ cond (passed reply) (heard_of reply) answer.old }
+pub(crate) fn tell(answer: &mut [f32], given: Result<(Told, Record), Cause>)
+    requires { passed (reply_in given) ≡ true → length answer.old ≡ 3 }
+    ensures { answer.new ≡ cond (passed (reply_in given)) (heard_of (reply_in given)) answer.old }
 {
-    if !frame::passed(reply) {
-        return;
+    if let Ok((told, _)) = given {
+        let Three {
+            heard,
+            voice,
+            energy,
+        } = whole::three_of(Ok(told));
+        answer.copy_from_slice(&[heard, voice, energy]);
     }
-    let three = whole::three_of(reply);
-    answer[0] = three.heard;
-    answer[1] = three.voice;
-    answer[2] = three.energy;
 }
 
 // The places of `out` that a call is lent. If `answer` has not three numbers, it is lent none, so that it refuses
 // with 5.
+#[tactic(auto, using(rules::proofs::Tests::tests))]
 pub(crate) fn places(answer: usize, out: usize) -> usize
     ensures { result ≡ out_of answer out }
 {
-    if answer != 3 {
-        return 0;
-    }
-    out
+    if answer == 3 { out } else { 0 }
 }
 
 // Call 3. `spectrum` is the transform of call 2's window, 961 numbers, and `logs` are the 22 logarithms of the sums.
@@ -364,8 +350,7 @@ pub extern "C" fn tuppence_call3(
         model,
         &mut out[0..end],
     );
-    let reply = given.reply;
-    tell(answer, reply);
+    tell(answer, given);
     hand_back(side, record, given)
 }
 
@@ -449,8 +434,7 @@ pub extern "C" fn tuppence_second_half(
         model,
         &mut out[0..end],
     );
-    let reply = given.reply;
-    tell(answer, reply);
+    tell(answer, given);
     hand_back(side, record, given)
 }
 
@@ -517,7 +501,6 @@ pub extern "C" fn tuppence_resume(
         &mut out[0..end],
         sums,
     );
-    let reply = given.reply;
-    tell(answer, reply);
+    tell(answer, given);
     hand_back(side, record, given)
 }

@@ -7,6 +7,7 @@ ghost use Rattle.desk.specs.Surface.{handed};
 ghost use Rattle.feed.specs.Feed.{block_of};
 ghost use Rattle.feed.specs.Surface.{hosted_feed};
 
+use crate::of_desk::{hand_back, record_in};
 use desk::Bench;
 
 // `bytes` are 1 to 4,096 whole samples of all channels, little end first; `format` is 16, 24, 32 for floats, or 33 for
@@ -38,7 +39,7 @@ pub extern "C" fn tuppence_feed(
 {
     let given = feed::feed(
         Bench(side as usize),
-        crate::of_desk::record_in(side, record),
+        record_in(side, record),
         store,
         bytes,
         format,
@@ -49,5 +50,5 @@ pub extern "C" fn tuppence_feed(
         records,
         answers,
     );
-    crate::of_desk::hand_back(side, record, given)
+    hand_back(side, record, given)
 }

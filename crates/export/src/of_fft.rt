@@ -4,6 +4,8 @@ ghost use Rattle.rules.specs.Leaf.{Leaf, ◌leaving◌};
 ghost use Rattle.transforms.specs.Transform.{ForwardFits, InverseFits};
 ghost use Rattle.fft.specs.Single.{fast_forward, fast_inverse};
 
+use rules::told;
+
 // From samples to a spectrum: `samples` has 960 numbers, `spectrum` gets 961: bin 0, then the real and imaginary
 // parts of bins 1 to 480.
 #[unsafe(no_mangle)]
@@ -13,7 +15,7 @@ pub extern "C" fn tuppence_fft_forward(spectrum: &mut [f32], samples: &[f32]) ->
         (0 leaving fast_forward samples.now)
         (5 leaving spectrum.old) }
 {
-    fft::forward(spectrum, samples)
+    told(fft::forward(spectrum, samples))
 }
 
 // From a spectrum to samples, not normalised: `spectrum` has 961 numbers, `samples` gets 960.
@@ -24,5 +26,5 @@ pub extern "C" fn tuppence_fft_inverse(samples: &mut [f32], spectrum: &[f32]) ->
         (0 leaving fast_inverse spectrum.now)
         (5 leaving samples.old) }
 {
-    fft::inverse(samples, spectrum)
+    told(fft::inverse(samples, spectrum))
 }

@@ -1,7 +1,11 @@
 // finder: nnnoiseless's pitch finder. Refusal 5: a slice has a wrong length.
+#![tactic(auto, using(finder::proofs::Ranges::period_in_range, rules::proofs::Numbers::casts))]
+
 ghost use Rattle.std.specs.Prelude.{[], ◌∷◌, length};
 ghost use Rattle.rules.specs.Leaf.{Leaf, ◌leaving◌};
 ghost use Rattle.export.specs.OfFinder.{FindFits, found_after, kept_numbers};
+
+use rules::Refusal;
 
 // `numbers` has two places, the last period and the last gain, and gets the new ones. `place` has one place, for the
 // period, 60 to 767. `input_mem` has the last 1,728 filtered samples.
@@ -14,20 +18,15 @@ pub extern "C" fn tuppence_find(numbers: &mut [f32], place: &mut [u32], input_me
         leaving (found_after numbers.old input_mem.now).period ∷ [])
         (5 leaving numbers.old leaving place.old) }
 {
-    if numbers.len() != 2 {
-        return 5;
+    if numbers.len() != 2 || place.len() != 1 {
+        return Refusal::WrongLength.number();
     }
-    if place.len() != 1 {
-        return 5;
+    match finder::find(numbers[0], numbers[1], input_mem) {
+        Ok(found) => {
+            numbers.copy_from_slice(&[found.period as f32, found.gain]);
+            place.copy_from_slice(&[found.period as u32]);
+            0
+        }
+        Err(refusal) => refusal.number(),
     }
-    let found = finder::find(numbers[0], numbers[1], input_mem);
-    let number = found.number();
-    if number != 0 {
-        return number;
-    }
-    let period = found.period();
-    numbers[0] = period as f32;
-    numbers[1] = found.gain();
-    place[0] = period as u32;
-    0
 }

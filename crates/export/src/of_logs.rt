@@ -3,6 +3,8 @@ ghost use Rattle.std.specs.Prelude.{◌≡◌, length};
 ghost use Rattle.rules.specs.Leaf.{Leaf, ◌leaving◌};
 ghost use Rattle.logs.specs.Log10.{log10_of, logs_of, LogsFits};
 
+use rules::told;
+
 // The logarithm to base 10, rounded to the nearest f32.
 #[unsafe(no_mangle)]
 pub extern "C" fn tuppence_log10(x: f32) -> f32
@@ -19,5 +21,5 @@ pub extern "C" fn tuppence_logs(logs: &mut [f32], sums: &[f32]) -> u32
         (0 leaving logs_of sums.now)
         (5 leaving logs.old) }
 {
-    logs::logs(logs, sums)
+    told(logs::logs(logs, sums))
 }

@@ -5,21 +5,12 @@ ghost use Rattle.rules.specs.Leaf.{Leaf, ◌leaving◌};
 ghost use Rattle.model.specs.Layer.{activation_of};
 ghost use Rattle.network.specs.Layers.{dense_of, DenseFits, gru_of, GruFits};
 ghost use Rattle.network.specs.Compute.{layered_of, computed};
-ghost use Rattle.network.proofs.Callers.{Answered};
+ghost use Rattle.network.specs.Computed.{computed_of};
 ghost use Rattle.export.specs.OfNetwork.{KnownActivation, computed_number, computed_told};
 
 use model::Activation;
-use network::Computed;
-
-fn activation_of(number: u32) -> Activation
-    ensures { result ≡ activation_of number }
-{
-    match number {
-        0 => Activation::Tanh,
-        1 => Activation::Sigmoid,
-        _ => Activation::Relu,
-    }
-}
+use network::Unfit;
+use rules::{Refusal, told};
 
 // A dense layer with i inputs and n neurons, 1 to 127 each. `output` has n numbers, `weights` has i*n, `bias` has n,
 // `input` has i. `activation` is 0 for tanh, 1 for sigmoid, 2 for relu.
@@ -39,10 +30,10 @@ pub extern "C" fn tuppence_dense(
         (0 leaving dense_of weights.now bias.now (activation_of activation) input.now)
         (5 leaving output.old) }
 {
-    if 2 < activation {
-        return 5;
+    match Activation::try_from(activation) {
+        Ok(activation) => told(network::dense(output, weights, bias, activation, input)),
+        Err(_) => Refusal::WrongLength.number(),
     }
-    network::dense(output, weights, bias, activation_of(activation), input)
 }
 
 // A GRU layer. `state` has n numbers and is replaced by the frame's output. `weights` has 3*i*n, `recurrent` 3*n*n,
@@ -67,28 +58,20 @@ pub extern "C" fn tuppence_gru(
         (activation_of activation) input.now state.old)
         (5 leaving state.old) }
 {
-    if 2 < activation {
-        return 5;
+    match Activation::try_from(activation) {
+        Ok(activation) => told(network::gru(state, weights, recurrent, bias, activation, input)),
+        Err(_) => Refusal::WrongLength.number(),
     }
-    network::gru(
-        state,
-        weights,
-        recurrent,
-        bias,
-        activation_of(activation),
-        input,
-    )
 }
 
-// A reply as a number: 0, 5, or 7 with the number and the layer of a model that does not read.
-fn number_of(answer: Computed) -> u32
-    requires { Answered answer }
-    ensures { result ≡ computed_number answer }
+// The number of a frame's answer: 0, 5, or 7 with the number and the layer of a model that does not read.
+fn number_of(answer: Result<(), Unfit>) -> u32
+    ensures { result ≡ computed_number (computed_of answer) }
 {
     match answer {
-        Computed::Done => 0,
-        Computed::Refused(number) => number,
-        Computed::Misread(number, layer) => crate::of_model::seven(number, layer),
+        Ok(()) => 0,
+        Err(Unfit::BadLength) => Refusal::WrongLength.number(),
+        Err(Unfit::BadModel(misread)) => crate::of_model::seven(misread),
     }
 }
 
@@ -110,6 +93,5 @@ pub extern "C" fn tuppence_network(
         gains.old voice.old vad.old noise.old denoise.old
         model.now features.now) }
 {
-    let answer = network::compute(gains, voice, vad, noise, denoise, model, features);
-    number_of(answer)
+    number_of(network::compute(gains, voice, vad, noise, denoise, model, features))
 }

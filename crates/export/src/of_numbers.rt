@@ -10,6 +10,9 @@ ghost use Rattle.numbers.specs.Root.{root};
 ghost use Rattle.numbers.specs.Filter.{memory_of, memory_list};
 ghost use Rattle.export.specs.OfNumbers.{BiquadFits, biquad_of};
 
+use numbers::{Biquad, Memory};
+use rules::Refusal;
+
 // The hyperbolic tangent by nnnoiseless's table and interpolation. NaN gives 0.
 #[unsafe(no_mangle)]
 pub extern "C" fn tuppence_tansig(x: f32) -> f32
@@ -93,27 +96,17 @@ pub extern "C" fn tuppence_filter(
         input.now))
         (5 leaving output.old leaving memory.old) }
 {
-    if memory.len() != 2 {
-        return 5;
-    }
-    if coefficients.len() != 4 {
-        return 5;
-    }
-    if output.len() != input.len() {
-        return 5;
-    }
-    let biquad = numbers::Biquad {
-        a0: coefficients[0],
-        a1: coefficients[1],
-        b0: coefficients[2],
-        b1: coefficients[3],
+    let (Some(kept), Some(four)) = (memory.as_array::<2>(), coefficients.as_array::<4>()) else {
+        return Refusal::WrongLength.number();
     };
-    let before = numbers::Memory {
-        m0: memory[0],
-        m1: memory[1],
-    };
-    let filtered = biquad.filter(output, before, input);
-    memory[0] = filtered.memory.m0;
-    memory[1] = filtered.memory.m1;
-    filtered.number
+    let [m0, m1] = *kept;
+    let [a0, a1, b0, b1] = *four;
+    let biquad = Biquad { a0, a1, b0, b1 };
+    match biquad.filter(output, Memory { m0, m1 }, input) {
+        Ok(after) => {
+            memory.copy_from_slice(&[after.m0, after.m1]);
+            0
+        }
+        Err(refusal) => refusal.number(),
+    }
 }

@@ -11,6 +11,8 @@ ghost use Rattle.pitch.specs.Autocorr.{celt_autocorr, AutocorrFits};
 ghost use Rattle.pitch.specs.Downsample.{downsampled, DownsampleFits};
 ghost use Rattle.export.specs.OfPitch.{SumFits, PitchesFit};
 
+use rules::{Refusal, told};
+
 // The sum of n products. `sum` has one place, for it. `xs` and `ys` have n numbers or more.
 #[unsafe(no_mangle)]
 pub extern "C" fn tuppence_inner_prod(sum: &mut [f32], xs: &[f32], ys: &[f32], n: usize) -> u32
@@ -20,15 +22,15 @@ pub extern "C" fn tuppence_inner_prod(sum: &mut [f32], xs: &[f32], ys: &[f32], n
         (5 leaving sum.old) }
 {
     if sum.len() != 1 {
-        return 5;
+        return Refusal::WrongLength.number();
     }
-    let product = pitch_search::inner_prod(xs, ys, n);
-    let number = product.number();
-    if number != 0 {
-        return number;
+    match pitch_search::inner_prod(xs, ys, n) {
+        Ok(product) => {
+            sum.copy_from_slice(&[product]);
+            0
+        }
+        Err(refusal) => refusal.number(),
     }
-    sum[0] = product.sum();
-    0
 }
 
 // Linear prediction. `ac` has at least one number more than `lpc`.
@@ -39,7 +41,7 @@ pub extern "C" fn tuppence_lpc(lpc: &mut [f32], ac: &[f32]) -> u32
         (0 leaving lpc_of (length lpc.old) ac.now)
         (5 leaving lpc.old) }
 {
-    pitch::lpc(lpc, ac)
+    told(pitch::lpc(lpc, ac))
 }
 
 // `xcorr` gets a correlation of `xs` and `ys` in each of its places. If it has any, `ys` is at least as long as the
@@ -52,7 +54,7 @@ pub extern "C" fn tuppence_pitch_xcorr(xcorr: &mut [f32], xs: &[f32], ys: &[f32]
         (0 leaving pitch_xcorr xs.now ys.now (length xcorr.old))
         (5 leaving xcorr.old) }
 {
-    pitch::pitch_xcorr(xs, ys, xcorr)
+    told(pitch::pitch_xcorr(xs, ys, xcorr))
 }
 
 // The two best lags. `pitches` has two places, for them. `ys` has at least len numbers more than `xcorr`.
@@ -71,16 +73,15 @@ pub extern "C" fn tuppence_find_best_pitch(
         (5 leaving pitches.old) }
 {
     if pitches.len() != 2 {
-        return 5;
+        return Refusal::WrongLength.number();
     }
-    let found = pitch_search::find_best_pitch(xcorr, ys, len);
-    let number = found.number();
-    if number != 0 {
-        return number;
+    match pitch_search::find_best_pitch(xcorr, ys, len) {
+        Ok(found) => {
+            pitches.copy_from_slice(&[found.first as u64, found.second as u64]);
+            0
+        }
+        Err(refusal) => refusal.number(),
     }
-    pitches[0] = found.first() as u64;
-    pitches[1] = found.second() as u64;
-    0
 }
 
 // A filter of five taps, in place. `xs` has any length, `num` has five numbers.
@@ -91,7 +92,7 @@ pub extern "C" fn tuppence_fir5(xs: &mut [f32], num: &[f32]) -> u32
         (0 leaving fir5 xs.old num.now)
         (5 leaving xs.old) }
 {
-    pitch::fir5_in_place(xs, num)
+    told(pitch::fir5_in_place(xs, num))
 }
 
 // Autocorrelation. `ac` has five places, `x` five numbers or more.
@@ -102,7 +103,7 @@ pub extern "C" fn tuppence_autocorr(ac: &mut [f32], x: &[f32]) -> u32
         (0 leaving celt_autocorr x.now)
         (5 leaving ac.old) }
 {
-    pitch::celt_autocorr(x, ac)
+    told(pitch::celt_autocorr(x, ac))
 }
 
 // Halves the sampling rate. `x` has 1,728 numbers, `x_lp` gets 864.
@@ -113,5 +114,5 @@ pub extern "C" fn tuppence_downsample(x_lp: &mut [f32], x: &[f32]) -> u32
         (0 leaving downsampled x.now)
         (5 leaving x_lp.old) }
 {
-    pitch::pitch_downsample(x, x_lp)
+    told(pitch::pitch_downsample(x, x_lp))
 }

@@ -5,6 +5,8 @@ ghost use Rattle.std.specs.Prelude.{◌≡◌};
 ghost use Rattle.rules.specs.Leaf.{◌leaving◌};
 ghost use Rattle.recorder.specs.Numbers.{begun_laid, more_laid, closing_laid, next_laid, finish_laid};
 
+use rules::told;
+
 // A recording begins. `numbers` has eight places; what they held is overwritten. `side` is 0 for left and 1 for right;
 // it `began` so many seconds after 1970 began, 0 if nobody knows; its `first` frame has this number, 0 after an
 // opening.
@@ -17,7 +19,7 @@ pub extern "C" fn tuppence_recorder_begin(
 ) -> u32
     ensures { (result leaving numbers.new) ≡ begun_laid side began first numbers.old }
 {
-    recorder::begin(numbers, side, began, first)
+    told(recorder::begin(numbers, side, began, first))
 }
 
 // What a feed gave. `numbers` has eight places, as they were left. The feed took in `taken` samples of the stream, 0 if
@@ -35,7 +37,7 @@ pub extern "C" fn tuppence_recorder_more(
     ensures { (result leaving numbers.new leaving part.new)
         ≡ more_laid taken cleaned.now records.now numbers.old part.old }
 {
-    recorder::more(numbers, part, taken, cleaned, records)
+    told(recorder::more(numbers, part, taken, cleaned, records))
 }
 
 // `silence` has one place: how many samples of silence the bench must still be fed after the stream's last sample, so
@@ -44,7 +46,7 @@ pub extern "C" fn tuppence_recorder_more(
 pub extern "C" fn tuppence_recorder_closing(silence: &mut [u64], numbers: &[u64]) -> u32
     ensures { (result leaving silence.new) ≡ closing_laid numbers.now silence.old }
 {
-    recorder::closing(silence, numbers)
+    told(recorder::closing(silence, numbers))
 }
 
 // The bench goes on in the next recording, which `began` then. `numbers` has eight places, as they were left after a
@@ -53,7 +55,7 @@ pub extern "C" fn tuppence_recorder_closing(silence: &mut [u64], numbers: &[u64]
 pub extern "C" fn tuppence_recorder_next(numbers: &mut [u64], began: u64) -> u32
     ensures { (result leaving numbers.new) ≡ next_laid began numbers.old }
 {
-    recorder::next(numbers, began)
+    told(recorder::next(numbers, began))
 }
 
 // The recording ends here. `numbers` has eight places, as they were left. `head` has 76 bytes, which are before the
@@ -68,5 +70,5 @@ pub extern "C" fn tuppence_recorder_finish(
     ensures { (result leaving head.new leaving chunk.new leaving trailer.new)
         ≡ finish_laid numbers.now head.old chunk.old trailer.old }
 {
-    recorder::finish(head, chunk, trailer, numbers)
+    told(recorder::finish(head, chunk, trailer, numbers))
 }

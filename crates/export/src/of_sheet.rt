@@ -11,6 +11,8 @@ ghost use Rattle.sheet.specs.Mended.{mend_of};
 ghost use Rattle.sheet.specs.Rows.{records_laid, trailer_laid};
 ghost use Rattle.sheet.specs.Written.{written_of};
 
+use rules::told;
+
 // Writes a whole sheet. `entries` has at most 536,870,911. `out` has 16 bytes and 8 for each entry; what it has
 // beyond that stays. `side` is 0 for left, 1 for right.
 #[unsafe(no_mangle)]
@@ -18,7 +20,7 @@ pub extern "C" fn tuppence_sheet_write(out: &mut [u8], side: u32, entries: &[u64
     ensures { (result leaving out.new)
         ≡ written_of (record { side = side; entries = entries.now }) out.old }
 {
-    sheet::write(out, side, entries)
+    told(sheet::write(out, side, entries))
 }
 
 // Writes the next records. `numbers` has two places, both 0 at first: how many records there are so far, and the sum
@@ -33,7 +35,7 @@ pub extern "C" fn tuppence_sheet_records(
     ensures { (result leaving numbers.new leaving out.new)
         ≡ records_laid side entries.now numbers.old out.old }
 {
-    sheet::parts::records(numbers, out, side, entries)
+    told(sheet::parts::records(numbers, out, side, entries))
 }
 
 // Writes the trailer of `count` records with this `sum`. `out` has 16 bytes; what it has beyond that stays.
@@ -41,7 +43,7 @@ pub extern "C" fn tuppence_sheet_records(
 pub extern "C" fn tuppence_sheet_trailer(out: &mut [u8], side: u32, count: u64, sum: u64) -> u32
     ensures { (result leaving out.new) ≡ trailer_laid side count sum out.old }
 {
-    sheet::parts::trailer(out, side, count, sum)
+    told(sheet::parts::trailer(out, side, count, sum))
 }
 
 // Reads a sheet. `numbers` has three places: where the records start, how many there are, and the side. `file` is
@@ -50,7 +52,7 @@ pub extern "C" fn tuppence_sheet_trailer(out: &mut [u8], side: u32, count: u64, 
 pub extern "C" fn tuppence_sheet_read(numbers: &mut [u64], file: &[u8]) -> u32
     ensures { (result leaving numbers.new) ≡ sheet_summary file.now numbers.old }
 {
-    sheet::summary(numbers, file)
+    told(sheet::summary(numbers, file))
 }
 
 // Reads one entry. `entry` has one place, for the entry with this index, counted from 0. `file` is as for
@@ -59,7 +61,7 @@ pub extern "C" fn tuppence_sheet_read(numbers: &mut [u64], file: &[u8]) -> u32
 pub extern "C" fn tuppence_sheet_entry(entry: &mut [u64], file: &[u8], index: u64) -> u32
     ensures { (result leaving entry.new) ≡ entry_at file.now index entry.old }
 {
-    sheet::entry(entry, file, index)
+    told(sheet::entry(entry, file, index))
 }
 
 // Mends a torn sheet. `numbers` has two places: how many bytes are written, and how many records they have. `out`
@@ -69,5 +71,5 @@ pub extern "C" fn tuppence_mend(numbers: &mut [u64], out: &mut [u8], file: &[u8]
     ensures { (result leaving numbers.new leaving out.new)
         ≡ mend_of file.now place numbers.old out.old }
 {
-    sheet::mend(numbers, out, file, place)
+    told(sheet::mend(numbers, out, file, place))
 }

@@ -3,6 +3,8 @@ ghost use Rattle.std.specs.Prelude.{length};
 ghost use Rattle.rules.specs.Leaf.{Leaf, ◌leaving◌};
 ghost use Rattle.transforms.specs.Transform.{forward_of, ForwardFits, inverse_of, InverseFits};
 
+use rules::told;
+
 // From samples to a spectrum: `samples` has 960 numbers, `spectrum` gets 961: bin 0, then the real and imaginary
 // parts of bins 1 to 480.
 #[unsafe(no_mangle)]
@@ -12,7 +14,7 @@ pub extern "C" fn tuppence_forward(spectrum: &mut [f32], samples: &[f32]) -> u32
         (0 leaving forward_of samples.now)
         (5 leaving spectrum.old) }
 {
-    transforms::forward(spectrum, samples)
+    told(transforms::forward(spectrum, samples))
 }
 
 // From a spectrum to samples, not normalised: `spectrum` has 961 numbers, `samples` gets 960.
@@ -23,5 +25,5 @@ pub extern "C" fn tuppence_inverse(samples: &mut [f32], spectrum: &[f32]) -> u32
         (0 leaving inverse_of spectrum.now)
         (5 leaving samples.old) }
 {
-    transforms::inverse(samples, spectrum)
+    told(transforms::inverse(samples, spectrum))
 }

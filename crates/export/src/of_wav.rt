@@ -7,6 +7,7 @@ ghost use Rattle.wav.specs.Head.{head_written};
 ghost use Rattle.wav.specs.Seal.{seal_summary, seal_written};
 ghost use Rattle.wav.specs.declared.seal.Word.TheVariants.{Begins, Ends};
 
+use rules::told;
 use wav::seal::Word;
 
 // The CRC-32 of the bytes so far, followed by these `bytes`. `before` is the checksum of the bytes so far, 0 at
@@ -24,7 +25,7 @@ pub extern "C" fn tuppence_checksum(before: u32, bytes: &[u8]) -> u32
 pub extern "C" fn tuppence_seal_write(out: &mut [u8], side: u32, size: u64, checksum: u32) -> u32
     ensures { (result leaving out.new) ≡ seal_written Ends side size checksum out.old }
 {
-    wav::seal::write(out, Word::Ends, side, size, checksum)
+    told(wav::seal::write(out, Word::Ends, side, size, checksum))
 }
 
 // Reads an end seal. `numbers` has three places: the side, the number of bytes of audio, and their checksum. `file`
@@ -33,7 +34,7 @@ pub extern "C" fn tuppence_seal_write(out: &mut [u8], side: u32, size: u64, chec
 pub extern "C" fn tuppence_seal_read(numbers: &mut [u64], file: &[u8]) -> u32
     ensures { (result leaving numbers.new) ≡ seal_summary Ends file.now numbers.old }
 {
-    wav::seal::summary(numbers, Word::Ends, file)
+    told(wav::seal::summary(numbers, Word::Ends, file))
 }
 
 // Writes the front seal of a recording. `out` has 24 bytes. The recording began `began` seconds after the start of
@@ -42,7 +43,7 @@ pub extern "C" fn tuppence_seal_read(numbers: &mut [u64], file: &[u8]) -> u32
 pub extern "C" fn tuppence_front_write(out: &mut [u8], side: u32, began: u64, first: u32) -> u32
     ensures { (result leaving out.new) ≡ seal_written Begins side began first out.old }
 {
-    wav::seal::write(out, Word::Begins, side, began, first)
+    told(wav::seal::write(out, Word::Begins, side, began, first))
 }
 
 // Reads a front seal. `numbers` has three places: the side, when the recording began, and the number of its first
@@ -51,7 +52,7 @@ pub extern "C" fn tuppence_front_write(out: &mut [u8], side: u32, began: u64, fi
 pub extern "C" fn tuppence_front_read(numbers: &mut [u64], file: &[u8]) -> u32
     ensures { (result leaving numbers.new) ≡ seal_summary Begins file.now numbers.old }
 {
-    wav::seal::summary(numbers, Word::Begins, file)
+    told(wav::seal::summary(numbers, Word::Begins, file))
 }
 
 // Writes the head of a WAV file. `out` has 44 bytes. The audio has `size` bytes at this rate, and the chunks
@@ -60,7 +61,7 @@ pub extern "C" fn tuppence_front_read(numbers: &mut [u64], file: &[u8]) -> u32
 pub extern "C" fn tuppence_wav_head(out: &mut [u8], rate: u32, size: u32, behind: u32) -> u32
     ensures { (result leaving out.new) ≡ head_written rate size behind out.old }
 {
-    wav::head::write(out, rate, size, behind)
+    told(wav::head::write(out, rate, size, behind))
 }
 
 // Reads the head of a WAV file, a chunk at a time. `numbers` has five places, all 0 at first: the place in the file,
@@ -70,5 +71,5 @@ pub extern "C" fn tuppence_wav_head(out: &mut [u8], rate: u32, size: u32, behind
 pub extern "C" fn tuppence_wav_read(numbers: &mut [u64], file: &[u8]) -> u32
     ensures { (result leaving numbers.new) ≡ step_told file.now numbers.old }
 {
-    wav::chunks::read(numbers, file)
+    wav::chunks::told(wav::chunks::read(numbers, file))
 }

@@ -6,6 +6,7 @@ ghost use Rattle.frame.specs.Effect.{Worked};
 ghost use Rattle.desk.specs.Surface.{out_of, handed};
 ghost use Rattle.whole.specs.Surface.{hosted_frame, hosted_take};
 
+use crate::of_desk::{hand_back, places, record_in, tell};
 use desk::Bench;
 
 // Cleans one frame. `samples` are its 480, `out` gets 480, and `answer` three numbers: heard (1 or 0), voice,
@@ -28,18 +29,17 @@ pub extern "C" fn tuppence_frame(
         (result, «record».new) store.new
         (out.old ∷ answer.old ∷ []) (out.new ∷ answer.new ∷ []) }
 {
-    let end = crate::of_desk::places(answer.len(), out.len());
+    let end = places(answer.len(), out.len());
     let given = whole::frame(
         Bench(side as usize),
-        crate::of_desk::record_in(side, record),
+        record_in(side, record),
         store,
         samples,
         model,
         &mut out[0..end],
     );
-    let reply = given.reply;
-    crate::of_desk::tell(answer, reply);
-    crate::of_desk::hand_back(side, record, given)
+    tell(answer, given);
+    hand_back(side, record, given)
 }
 
 // Cleans 1 to 4,096 samples, `piece`. For each frame that they complete together with the samples that wait, `out`
@@ -64,12 +64,12 @@ pub extern "C" fn tuppence_take(
 {
     let given = whole::take(
         Bench(side as usize),
-        crate::of_desk::record_in(side, record),
+        record_in(side, record),
         store,
         piece,
         model,
         out,
         answers,
     );
-    crate::of_desk::hand_back(side, record, given)
+    hand_back(side, record, given)
 }

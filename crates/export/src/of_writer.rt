@@ -5,6 +5,8 @@ ghost use Rattle.std.specs.Prelude.{◌≡◌};
 ghost use Rattle.rules.specs.Leaf.{◌leaving◌};
 ghost use Rattle.model.specs.Writer.{arrays_of, write_model};
 
+use model::told;
+
 // `shapes` has 18 numbers: inputs, neurons and activation of each layer. The arrays are signed bytes: `w0`, `b0`
 // (weights and biases) of input_dense; `w1`, `r1`, `b1` (weights, recurrent weights, biases) of vad_gru; `w2`, `r2`,
 // `b2` of noise_gru; `w3`, `r3`, `b3` of denoise_gru; `w4`, `b4` of denoise_output; `w5`, `b5` of vad_output. `out`
@@ -34,7 +36,7 @@ pub extern "C" fn tuppence_write_model(
         w2.now r2.now b2.now w3.now r3.now b3.now
         w4.now b4.now w5.now b5.now) out.old }
 {
-    model::writer::write(
+    told(model::writer::write(
         out, shapes, w0, b0, w1, r1, b1, w2, r2, b2, w3, r3, b3, w4, b4, w5, b5,
-    )
+    ))
 }

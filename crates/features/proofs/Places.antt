@@ -84,7 +84,3 @@ module _ (l pitch ceps : List Float) (all : length l ≡ 42) (p : length pitch �
       sym (get_get (place 0 22) (place 6 16) after (omega (arith, whole')) (omega arith))
       ∙ ap (get (place 6 16)) (get_put (place 0 22) before ceps (omega (arith, whole)) q)
       ∙ take_all 16 (drop 6 ceps) (simp length-drop (omega arith))
-
-  pub ceps_read : part 0 22 (put (place 0 22) (put (place 34 7) l pitch) ceps) ≡ ceps
-  unfolding get
-  ceps_read = get_put (place 0 22) before ceps (omega (arith, whole)) q

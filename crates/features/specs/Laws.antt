@@ -1,6 +1,6 @@
 -- What is claimed of the test for silence and of remembered gains. The proofs are in proofs/InPaper, proofs/Remembered
 -- and proofs/Order.
-use Rattle.std.specs.Prelude.{◌<◌, ◌∷◌, ◌≡◌}
+use Rattle.std.specs.Prelude.{◌<◌, ◌∷◌, ◌≡◌, Ok}
 use Rattle.rules.specs.Common.{ℕ, true, false, cond, List, [], Float, le, is_nan}
 use Rattle.rules.specs.F32.{at}
 use Rattle.features.specs.Silence.{is_silent, sound_number, sound_values, sound_of}
@@ -9,8 +9,8 @@ use Rattle.features.specs.Gains.{six_tenths, gained}
 -- In the words of document 01: listening to a frame returns 0. A heard frame comes with the sum of its energies, and a
 -- silent one with no value.
 abbrev pub SoundInPaper : Type 0
-SoundInPaper = (e : Float) → (sound_number (sound_of e) ≡ 0)
-    × (sound_values (sound_of e) ≡ cond (is_silent e) [] (e ∷ []))
+SoundInPaper = (e : Float) → (sound_number (Ok (sound_of e)) ≡ 0)
+    × (sound_values (Ok (sound_of e)) ≡ cond (is_silent e) [] (e ∷ []))
 
 -- For any gains g, even NaN: a remembered gain that is not NaN stays so, and falls to no less than 0.6 times itself.
 abbrev pub Remembered : Type 0

@@ -1,9 +1,15 @@
 -- The test for silence, from `compute_frame_features` of features.rs.
 use Rattle.std.specs.Prelude.{◌∷◌}
+use Rattle.std.specs.Prelude.{Result, Ok, Err, Option, Some, None}
 use Rattle.rules.specs.Common.{ℕ, Bool, cond, List, [], Float, lt}
 use Rattle.rules.specs.Loop.{loop}
 use Rattle.rules.specs.F32.{◌⊕◌, at, f32}
-use Rattle.features.specs.declared.Sound.{Sound}
+use Rattle.rules.specs.Refusal.{told}
+use Rattle.rules.specs.declared.refusal.Refusal.{Refusal}
+
+-- An answer of `listen`: the energy of a frame that is heard, nothing for a silent one, or a refusal.
+abbrev pub Sound : Type 0
+Sound = Result (Option Float) Refusal
 
 -- Rust: e += ex[i].
 abbrev pub energy_step : List Float → ℕ → Float → Float
@@ -19,16 +25,14 @@ is_silent e = lt e (f32 0x3D23D70A)
 
 -- The number that document 01 gives an answer: 0, or the number of the refusal.
 abbrev pub sound_number : Sound → ℕ
-sound_number Sound.Silent = 0
-sound_number (Sound.Heard e) = 0
-sound_number (Sound.Refused n) = n
+sound_number sound = told sound
 
 -- The values that document 01 gives an answer: the sum of the energies of a heard frame.
 abbrev pub sound_values : Sound → List Float
-sound_values Sound.Silent = []
-sound_values (Sound.Heard e) = e ∷ []
-sound_values (Sound.Refused n) = []
+sound_values (Ok (Some e)) = e ∷ []
+sound_values (Ok None) = []
+sound_values (Err refusal) = []
 
--- Whether a frame with this sum of energies is heard.
-unfoldable pub sound_of : Float → Sound
-sound_of e = cond (is_silent e) Sound.Silent (Sound.Heard e)
+-- Whether a frame with this sum of energies is heard: the sum, or nothing.
+unfoldable pub sound_of : Float → Option Float
+sound_of e = cond (is_silent e) None (Some e)

@@ -1,5 +1,7 @@
 // Smoothed logarithms, the cepstral memory of 8 rows of 22, and the features that are made of it.
-ghost use Rattle.std.specs.Prelude.{◌≡◌, ◌≤◌, length};
+// Stays: the loops of row_distance, nearest_row and spectral_variability calculate with their index or hand it on as a
+// row. An iterator would give the same index, and no item is used alone.
+ghost use Rattle.std.specs.Prelude.{◌≡◌, ◌*◌, ◌≤◌, length};
 ghost use Rattle.rules.specs.Place.{put};
 ghost use Rattle.rules.specs.F32.{part};
 ghost use Rattle.features.specs.Features.{laid};
@@ -9,50 +11,71 @@ ghost use Rattle.features.specs.Private.{delta_of};
 
 // Smooths the logarithms: none is more than 7 below the largest before it, and from band to band they fall by at most
 // 1.5.
-fn follow_logs(ly: &mut [f32], logs: &[f32])
-    requires { (length ly.old ≡ 22) × (length logs.now ≡ 22) }
+fn follow_logs(ly: &mut [f32; 22], logs: &[f32; 22])
     ensures { ly.new ≡ follow_logs logs.now }
 {
     let mut log_max = -2.0f32;
     let mut follow = -2.0f32;
-    for i in 0..22 {
+    for (i, place) in ly.iter_mut().enumerate() {
         let y = numbers::max(numbers::max(logs[i], log_max - 7.0), follow - 1.5);
-        ly[i] = y;
+        *place = y;
         log_max = numbers::max(log_max, y);
         follow = numbers::max(follow - 1.5, y);
     }
 }
 
 // The cepstrum of these logarithms.
-pub(crate) fn cepstrum_of(out: &mut [f32], logs: &[f32])
-    requires { (length out.old ≡ 22) × (length logs.now ≡ 22) }
-    ensures { out.new ≡ cepstrum logs.now }
+#[tactic(auto, using(rules::proofs::Refusals::left), unfolding(crate::specs::Cepstra::cepstrum))]
+pub(crate) fn cepstrum_of(logs: &[f32; 22]) -> [f32; 22]
+    ensures { result ≡ cepstrum logs.now }
 {
     let mut ly = [0.0f32; 22];
     follow_logs(&mut ly, logs);
-    bands::dct(out, &ly);
+    let mut out = [0.0f32; 22];
+    bands::dct(&mut out, &ly).unwrap();
     out[0] = out[0] - 12.0;
     out[1] = out[1] - 4.0;
+    out
 }
 
-// Stores the cepstrum in row `index` of the memory.
-pub(crate) fn remember(mem: &mut [f32], index: usize, ceps: &[f32])
-    requires { (length mem.old ≡ 176) × (length ceps.now ≡ 22) × (index ≤ 7) }
-    ensures { mem.new ≡ put (row index) mem.old ceps.now }
-{
-    let at = index * 22;
-    rules::copy(&mut mem[at..at + 22], ceps);
+// A row of the memory.
+#[derive(Clone, Copy)]
+pub(crate) struct Row {
+    pub(crate) index: usize,
+    ghost inside: { index ≤ 7 },
 }
 
-// The row k rows before `index`; before row 0 comes row 7.
-fn row_back(index: usize, k: usize) -> usize
-    requires { (index ≤ 7) × (k ≤ 8) × (1 ≤ k) }
-    ensures { (result ≡ back index k) × (result ≤ 7) }
-{
-    if index < k {
-        return 8 + index - k;
+impl Row {
+    // The row k rows before this one; before row 0 comes row 7.
+    #[tactic(auto, unfolding(crate::specs::Cepstra::back))]
+    fn back(self, k: usize) -> Row
+        requires { (k ≤ 8) × (1 ≤ k) }
+        ensures { result.index ≡ back self.index k }
+    {
+        if self.index < k {
+            return Row {
+                index: 8 + self.index - k,
+            };
+        }
+        Row {
+            index: self.index - k,
+        }
     }
-    index - k
+
+    // Where it starts.
+    fn start(self) -> usize
+        ensures { result ≡ self.index * 22 }
+    {
+        self.index * 22
+    }
+}
+
+// Stores the cepstrum in this row of the memory.
+pub(crate) fn remember(mem: &mut [f32; 176], newest: Row, ceps: &[f32; 22])
+    ensures { mem.new ≡ put (row newest.index) mem.old ceps.now }
+{
+    let at = newest.start();
+    mem[at..at + 22].copy_from_slice(ceps);
 }
 
 // What is made of three cepstra at one place.
@@ -66,88 +89,89 @@ enum Delta {
     Bend,
 }
 
-// One of these for three numbers, the newest first.
-fn combine(kind: Delta, ceps0: f32, ceps1: f32, ceps2: f32) -> f32
-    ensures { result ≡ delta_of kind ceps0 ceps1 ceps2 }
-{
-    match kind {
-        Delta::Smoothed => ceps0 + ceps1 + ceps2,
-        Delta::Slope => ceps0 - ceps2,
-        Delta::Bend => ceps0 - 2.0 * ceps1 + ceps2,
+impl Delta {
+    // One of these for three numbers, the newest first.
+    fn of(self, ceps0: f32, ceps1: f32, ceps2: f32) -> f32
+        ensures { result ≡ delta_of self ceps0 ceps1 ceps2 }
+    {
+        match self {
+            Delta::Smoothed => ceps0 + ceps1 + ceps2,
+            Delta::Slope => ceps0 - ceps2,
+            Delta::Bend => ceps0 - 2.0 * ceps1 + ceps2,
+        }
     }
 }
 
 // One of these at the first six places of three rows.
-fn delta_rows(out: &mut [f32], kind: Delta, mem: &[f32], c0: usize, c1: usize, c2: usize)
-    requires { (length out.old ≡ 6) × (length mem.now ≡ 176) × (c0 ≤ 7) × (c1 ≤ 7) × (c2 ≤ 7) }
-    ensures { out.new ≡ deltas (delta_of kind) mem.now c0 c1 c2 }
+fn delta_rows(out: &mut [f32], kind: Delta, mem: &[f32; 176], c0: Row, c1: Row, c2: Row)
+    requires { length out.old ≡ 6 }
+    ensures { out.new ≡ deltas (delta_of kind) mem.now c0.index c1.index c2.index }
 {
-    for i in 0..6 {
-        let ceps0 = mem[c0 * 22 + i];
-        let ceps1 = mem[c1 * 22 + i];
-        let ceps2 = mem[c2 * 22 + i];
-        out[i] = combine(kind, ceps0, ceps1, ceps2);
+    let at0 = c0.start();
+    let at1 = c1.start();
+    let at2 = c2.start();
+    for (i, delta) in out.iter_mut().enumerate() {
+        *delta = kind.of(mem[at0 + i], mem[at1 + i], mem[at2 + i]);
     }
 }
 
 // The squared distance of two rows.
-fn row_distance(mem: &[f32], i: usize, j: usize) -> f32
-    requires { (length mem.now ≡ 176) × (i ≤ 7) × (j ≤ 7) }
-    ensures { result ≡ cepstral_distance mem.now i j }
+#[tactic(auto, using(rules::proofs::Loops::turns), unfolding(crate::specs::Cepstra::cepstral_distance))]
+fn row_distance(mem: &[f32; 176], i: Row, j: Row) -> f32
+    ensures { result ≡ cepstral_distance mem.now i.index j.index }
 {
+    let at_i = i.start();
+    let at_j = j.start();
     let mut dist = 0.0f32;
     for k in 0..22 {
-        let tmp = mem[i * 22 + k] - mem[j * 22 + k];
+        let tmp = mem[at_i + k] - mem[at_j + k];
         dist = dist + tmp * tmp;
     }
     dist
 }
 
 // The smaller of `least` and the distance of rows i and j, if i and j differ.
-fn nearer(mem: &[f32], i: usize, j: usize, least: f32) -> f32
-    requires { (length mem.now ≡ 176) × (i ≤ 7) × (j ≤ 7) }
-    ensures { result ≡ nearest_step mem.now i j least }
+fn nearer(mem: &[f32; 176], i: Row, j: Row, least: f32) -> f32
+    ensures { result ≡ nearest_step mem.now i.index j.index least }
 {
-    if j == i {
+    if j.index == i.index {
         return least;
     }
     numbers::min(least, row_distance(mem, i, j))
 }
 
 // The smallest distance of row i from another row.
-fn nearest_row(mem: &[f32], i: usize) -> f32
-    requires { (length mem.now ≡ 176) × (i ≤ 7) }
-    ensures { result ≡ nearest mem.now i }
+#[tactic(auto, using(rules::proofs::Loops::turns), unfolding(crate::specs::Cepstra::nearest))]
+fn nearest_row(mem: &[f32; 176], i: Row) -> f32
+    ensures { result ≡ nearest mem.now i.index }
 {
     let mut least = 1e15f32;
-    for j in 0..8 {
-        least = nearer(mem, i, j, least);
+    for index in 0..8 {
+        least = nearer(mem, i, Row { index }, least);
     }
     least
 }
 
 // How far apart the rows of the memory are.
-fn spectral_variability(mem: &[f32]) -> f32
-    requires { length mem.now ≡ 176 }
+#[tactic(auto, using(rules::proofs::Loops::turns), unfolding(crate::specs::Cepstra::variability))]
+fn spectral_variability(mem: &[f32; 176]) -> f32
     ensures { result ≡ variability mem.now }
 {
     let mut sum = 0.0f32;
-    for i in 0..8 {
-        sum = sum + nearest_row(mem, i);
+    for index in 0..8 {
+        sum = sum + nearest_row(mem, Row { index });
     }
     sum / 8.0 - 2.1
 }
 
 // Adds the features that are made of the memory. Places 6 to 21 and 34 to 40 stay.
-pub(crate) fn add_deltas(features: &mut [f32], mem: &[f32], index: usize)
-    requires { (length features.old ≡ 42) × (length mem.now ≡ 176) × (index ≤ 7) }
-    ensures { features.new
-        ≡ laid (part 6 22 features.old) (part 34 41 features.old) mem.now index }
+pub(crate) fn add_deltas(features: &mut [f32; 42], mem: &[f32; 176], newest: Row)
+    ensures { features.new ≡ laid (part 6 22 features.old) (part 34 41 features.old) mem.now newest.index }
 {
-    let c1 = row_back(index, 1);
-    let c2 = row_back(index, 2);
-    delta_rows(&mut features[0..6], Delta::Smoothed, mem, index, c1, c2);
-    delta_rows(&mut features[22..28], Delta::Slope, mem, index, c1, c2);
-    delta_rows(&mut features[28..34], Delta::Bend, mem, index, c1, c2);
+    let c1 = newest.back(1);
+    let c2 = newest.back(2);
+    delta_rows(&mut features[0..6], Delta::Smoothed, mem, newest, c1, c2);
+    delta_rows(&mut features[22..28], Delta::Slope, mem, newest, c1, c2);
+    delta_rows(&mut features[28..34], Delta::Bend, mem, newest, c1, c2);
     features[41] = spectral_variability(mem);
 }

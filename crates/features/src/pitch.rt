@@ -1,10 +1,10 @@
 // The steps of `pitch_filter`.
-ghost use Rattle.std.specs.Prelude.{◌≡◌, length};
+ghost use Rattle.std.specs.Prelude.{◌≡◌};
 ghost use Rattle.features.specs.Pitch.{strength, ratio, band_pitch_gain, pitch_gains, renormalised, pitch_added};
-ghost use Rattle.features.specs.Pitch.{restored};
-ghost use Rattle.features.specs.Pitch.{pitch_filtered, PitchFilterFits};
+ghost use Rattle.features.specs.Pitch.{restored, pitch_filtered};
 
 // How much of a band is pitch, by its correlation and its gain.
+#[tactic(auto, unfolding(crate::specs::Pitch::strength))]
 fn strength_of(exp: f32, gain: f32) -> f32
     ensures { result ≡ strength gain exp }
 {
@@ -17,6 +17,7 @@ fn strength_of(exp: f32, gain: f32) -> f32
 }
 
 // The root of the ratio of two energies.
+#[tactic(auto, unfolding(crate::specs::Pitch::ratio))]
 fn energy_ratio(ex: f32, e: f32) -> f32
     ensures { result ≡ ratio ex e }
 {
@@ -24,6 +25,7 @@ fn energy_ratio(ex: f32, e: f32) -> f32
 }
 
 // How much of the lagged signal is added in a band.
+#[tactic(auto, unfolding(crate::specs::Pitch::band_pitch_gain))]
 fn gain_of(exp: f32, gain: f32, ex: f32, ep: f32) -> f32
     ensures { result ≡ band_pitch_gain gain exp ex ep }
 {
@@ -31,69 +33,61 @@ fn gain_of(exp: f32, gain: f32, ex: f32, ep: f32) -> f32
 }
 
 // The same for all bands.
-fn gains_of(r: &mut [f32], exp: &[f32], gains: &[f32], ex: &[f32], ep: &[f32])
-    requires { (length r.old ≡ 22) × (length exp.now ≡ 22) × (length gains.now ≡ 22) × (length ex.now ≡ 22)
-        × (length ep.now ≡ 22) }
-    ensures { r.new
-        ≡ pitch_gains gains.now exp.now ex.now ep.now }
+fn gains_of(r: &mut [f32; 22], exp: &[f32; 22], gains: &[f32; 22], ex: &[f32; 22], ep: &[f32; 22])
+    ensures { r.new ≡ pitch_gains gains.now exp.now ex.now ep.now }
 {
-    for i in 0..22 {
-        r[i] = gain_of(exp[i], gains[i], ex[i], ep[i]);
+    for (i, gain) in r.iter_mut().enumerate() {
+        *gain = gain_of(exp[i], gains[i], ex[i], ep[i]);
     }
 }
 
 // Turns each band's new energy into the factor that restores its old one.
-fn renormalise(e: &mut [f32], ex: &[f32])
-    requires { (length e.old ≡ 22) × (length ex.now ≡ 22) }
+fn renormalise(e: &mut [f32; 22], ex: &[f32; 22])
     ensures { e.new ≡ renormalised ex.now e.old }
 {
-    for i in 0..22 {
-        e[i] = energy_ratio(ex[i], e[i]);
+    for (i, energy) in e.iter_mut().enumerate() {
+        *energy = energy_ratio(ex[i], *energy);
     }
 }
 
 // Adds the lagged spectrum to the spectrum, each bin times its factor.
-fn add_pitch(x: &mut [f32], p: &[f32], rf: &[f32])
-    requires { (length x.old ≡ 961) × (length p.now ≡ 961) × (length rf.now ≡ 481) }
+fn add_pitch(x: &mut [f32; 961], p: &[f32; 961], rf: &[f32; 481])
     ensures { x.new ≡ pitch_added x.old p.now rf.now }
 {
+    // Stays: a loop like that of `scale_bins`, where `iter_mut().enumerate()` was slower.
     for n in 0..961 {
         x[n] = x[n] + p[n] * rf[(n + 1) / 2];
     }
 }
 
 // Brings the energies of the bands of x back to ex. `r` has a place for each band, and `rf` for each bin.
-fn restore(x: &mut [f32], ex: &[f32], r: &mut [f32], rf: &mut [f32])
-    requires { (length x.old ≡ 961) × (length ex.now ≡ 22) × (length r.old ≡ 22) × (length rf.old ≡ 481) }
+#[tactic(auto, using(rules::proofs::Refusals::left), unfolding(crate::specs::Pitch::restored))]
+fn restore(x: &mut [f32; 961], ex: &[f32; 22], r: &mut [f32; 22], rf: &mut [f32; 481])
     ensures { x.new ≡ restored x.old ex.now }
 {
-    bands::compute_band_corr(r, x, x);
+    let before = &*x;
+    bands::compute_band_corr(r, before, before).unwrap();
     renormalise(r, ex);
-    bands::interp_band_gain(rf, r);
-    crate::apply_gains(x, rf);
+    bands::interp_band_gain(rf, r).unwrap();
+    crate::scale_bins(x, rf);
 }
 
-// `pitch_filter` for lengths that fit, with lent places for its factors.
+// `pitch_filter` for lengths that fit.
+#[tactic(auto, using(rules::proofs::Refusals::left), unfolding(crate::specs::Pitch::pitch_filtered))]
 pub(crate) fn filter(
-    x: &mut [f32],
-    p: &[f32],
-    gains: &[f32],
-    exp: &[f32],
-    ex: &[f32],
-    ep: &[f32],
-    r: &mut [f32],
-    rf: &mut [f32],
+    x: &mut [f32; 961],
+    p: &[f32; 961],
+    gains: &[f32; 22],
+    exp: &[f32; 22],
+    ex: &[f32; 22],
+    ep: &[f32; 22],
 )
-    requires pitch_filter_fits { PitchFilterFits (length x.old) (length p.now) (length gains.now) (length exp.now)
-        (length ex.now)
-        (length ep.now) }
-    requires places_fit { (length r.old ≡ 22) × (length rf.old ≡ 481) }
-    ensures { x.new
-        ≡ pitch_filtered x.old p.now gains.now exp.now
-        ex.now ep.now }
+    ensures { x.new ≡ pitch_filtered x.old p.now gains.now exp.now ex.now ep.now }
 {
-    gains_of(r, exp, gains, ex, ep);
-    bands::interp_band_gain(rf, r);
-    add_pitch(x, p, rf);
-    restore(x, ex, r, rf);
+    let mut r = [0.0f32; 22];
+    let mut rf = [0.0f32; 481];
+    gains_of(&mut r, exp, gains, ex, ep);
+    bands::interp_band_gain(&mut rf, &r).unwrap();
+    add_pitch(x, p, &rf);
+    restore(x, ex, &mut r, &mut rf);
 }

@@ -20,10 +20,10 @@ use Rattle.frame.specs.Written.{from, over, at_front}
 use Rattle.rules.proofs.Lists.{tab_same}
 use Rattle.rules.proofs.Tests.{both}
 use Rattle.frame.specs.Effect.{Effect, refusal, Worked, WorkedBoth}
-use Rattle.frame.specs.declared.Reply.TheVariants.{Refused}
+use Rattle.frame.specs.Reply.{Refused}
 use Rattle.frame.specs.Reply.{passed}
 use Rattle.pieces.specs.Pieces.{completes, piece_fits}
-use Rattle.desk.specs.declared.Answer.{Answer}
+use Rattle.desk.specs.Answer.{Answer}
 use Rattle.desk.specs.declared.Record.{Record}
 use Rattle.desk.specs.Gate.{PIECE, side_of, gate, share_of}
 use Rattle.whole.specs.Whole.{lent_to_each, answers_of, take}
@@ -179,6 +179,15 @@ module _ (n side : ℕ) (rec : Record) (store : List Float) (b : Block) (model c
       pub shut : r ≡ false → Refuses given 5
       shut h = rw (behind false (answer (sym asked ∙ h))) (refuses 5)
 
+      -- the block can be unpacked into as many places
+      pub unpacks : r ≡ true → {size : ℕ} → size ≡ k
+          → UnpackFits size (length b.bytes) b.format b.channels b.channel
+      unpacks h same =
+          let yes = sym asked ∙ h in
+          let some : 0 < block_size b =
+          omega (arith, e, (sized rec.waiting k (length cleaned) (length records) (length answers) yes).1) in
+          rw (same ∙ e) (block_fits (length b.bytes) b.format b.channels b.channel some)
+
       -- where the code takes what it unpacked of the block
       pub fed : r ≡ true → {size : ℕ} → size ≡ k → {xs : List Float}
           → (UnpackFits size (length b.bytes) b.format b.channels b.channel
@@ -187,10 +196,4 @@ module _ (n side : ℕ) (rec : Record) (store : List Float) (b : Block) (model c
           → WorkedBoth (fed_by (side_of side) rec.frame (take n side rec store xs model ROOM (length answers))) a s
           (answers ∷ []) (t ∷ []) (cleaned ∷ records ∷ []) (c ∷ d ∷ [])
           → WorkedBoth given a s (answers ∷ []) (t ∷ []) (cleaned ∷ records ∷ []) (c ∷ d ∷ [])
-      fed h {size} same reads w =
-          let yes = sym asked ∙ h in
-          let some : 0 < block_size b =
-          omega (arith, e, (sized rec.waiting k (length cleaned) (length records) (length answers) yes).1) in
-          let fits : UnpackFits size (length b.bytes) b.format b.channels b.channel =
-          rw (same ∙ e) (block_fits (length b.bytes) b.format b.channels b.channel some) in
-          rw (behind true (answer yes)) (rw (reads fits, same ∙ e) at w)
+      fed h {size} same reads w = rw (behind true (answer (sym asked ∙ h))) (rw (reads (unpacks h same), same ∙ e) at w)

@@ -11,8 +11,8 @@ use lib.Ieee.{eq}
 use Rattle.rules.specs.F32.{f32}
 use Rattle.rules.proofs.Refusals.{by_rows}
 use Rattle.frame.specs.Effect.{Effect, refusal}
-use Rattle.frame.specs.declared.Reply.TheVariants.{Refused}
-use Rattle.desk.specs.declared.Answer.{Answer}
+use Rattle.frame.specs.Reply.{Refused}
+use Rattle.desk.specs.Answer.{Answer}
 use Rattle.frame.specs.Reply.{passed}
 use Rattle.desk.specs.declared.Record.{Record}
 use Rattle.desk.specs.Gate.{PIECE, side_of, in_range, gate}

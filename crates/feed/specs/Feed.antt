@@ -9,9 +9,9 @@ use Rattle.rules.specs.F32.{f32, at}
 use Rattle.rules.specs.Refusals.{Row, ◌when◌, refusing}
 use Rattle.rules.specs.Tab.{tab}
 use Rattle.frame.specs.Written.{Written, from, front, numbers_in, first_in}
-use Rattle.frame.specs.declared.Reply.TheVariants.{Refused}
+use Rattle.frame.specs.Reply.{Refused}
 use Rattle.pieces.specs.Pieces.{completes, piece_fits}
-use Rattle.desk.specs.declared.Answer.{Answer}
+use Rattle.desk.specs.Answer.{Answer}
 use Rattle.desk.specs.declared.Record.{Record}
 use Rattle.desk.specs.Gate.{PIECE, side_of, gate}
 use Rattle.frame.specs.Effect.{Effect, refusal}

@@ -1,7 +1,7 @@
 -- A feed for a host that has numbers alone: what the function of the C surface returns and leaves.
 use Rattle.rules.specs.Common.{ℕ, List, Float}
 use Rattle.frame.specs.Effect.{Effect}
-use Rattle.desk.specs.declared.Answer.{Answer}
+use Rattle.desk.specs.Answer.{Answer}
 use Rattle.desk.specs.Surface.{record_in}
 use Rattle.feed.specs.Feed.{Block, feed}
 

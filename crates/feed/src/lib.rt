@@ -4,14 +4,16 @@
 #![tactic(auto)]
 
 ghost use Rattle.std.specs.Prelude.{[], ◌∷◌, length};
+ghost use Rattle.desk.specs.Answer.{answer_of};
 ghost use Rattle.desk.specs.Gate.{BENCHES, side_of};
 ghost use Rattle.frame.specs.Effect.{WorkedBoth};
 ghost use Rattle.whole.specs.Whole.{take};
 ghost use Rattle.feed.specs.Feed.{ROOM, block_of, fed_by, feed};
 ghost use Rattle.feed.specs.Private.{Ready};
 
-use desk::{Answer, Bench, Record};
-use frame::Reply;
+use desk::{Bench, Record};
+use frame::{Cause, Told};
+use rules::Refusal;
 
 mod out;
 mod refusals;
@@ -26,25 +28,22 @@ fn clean(
     cleaned: &mut [u8],
     records: &mut [u8],
     answers: &mut [f32],
-) -> Answer
+) -> Result<(Told, Record), Cause>
     requires { Ready rec.waiting (length samples.now) (length cleaned.old) (length records.old)
         (length answers.old) }
     ensures { WorkedBoth
         (fed_by (side_of side.0) rec.frame
         (take BENCHES side.0 rec store.old samples.now model.now ROOM
         (length answers.old)))
-        result store.new (answers.old ∷ []) (answers.new ∷ [])
+        (answer_of rec result) store.new (answers.old ∷ []) (answers.new ∷ [])
         (cleaned.old ∷ records.old ∷ []) (cleaned.new ∷ records.new ∷ []) }
 {
     let frames = (rec.waiting + samples.len()) / 480;
     let mut out = [0.0f32; 4320];
-    let given = whole::take(side, rec, store, samples, model, &mut out, answers);
-    let reply = given.reply;
-    if frame::passed(reply) {
-        let own = desk::side_of(side) as u32;
-        out::hand_out(cleaned, records, &out, &answers[..], own, rec.frame, frames);
-    }
-    given
+    let answer = whole::take(side, rec, store, samples, model, &mut out, answers)?;
+    let own = desk::side_of(side) as u32;
+    out::hand_out(cleaned, records, &out, &answers[..], own, rec.frame, frames);
+    Ok(answer)
 }
 
 // A block and the model in. For each frame that its samples complete this writes 960 bytes, a record of 8 bytes, and
@@ -61,31 +60,22 @@ pub fn feed(
     cleaned: &mut [u8],
     records: &mut [u8],
     answers: &mut [f32],
-) -> Answer
+) -> Result<(Told, Record), Cause>
     ensures { WorkedBoth
         (feed BENCHES side.0 rec store.old (block_of block.now format channels channel)
         model.now
         (length cleaned.old) (length records.old) (length answers.old))
-        result store.new (answers.old ∷ []) (answers.new ∷ [])
+        (answer_of rec result) store.new (answers.old ∷ []) (answers.new ∷ [])
         (cleaned.old ∷ records.old ∷ []) (cleaned.new ∷ records.new ∷ []) }
 {
-    let number = desk::gate(side, rec, store.len(), desk::PIECE);
-    if number != 0 {
-        return Answer {
-            reply: Reply::Refused(number),
-            rec,
-        };
-    }
+    desk::gate(side, rec, store.len(), desk::PIECE)?;
     let n = refusals::samples_in(block.len(), format, channels, channel);
     if !refusals::fits(rec.waiting, n, cleaned.len(), records.len(), answers.len()) {
-        return Answer {
-            reply: Reply::Refused(5),
-            rec,
-        };
+        return Err(Refusal::WrongLength.into());
     }
     let mut places = [0.0f32; 4096];
     let samples = &mut places[0..n];
-    pcm::unpack(samples, block, format, channels, channel);
+    pcm::unpack(samples, block, format, channels, channel).unwrap();
     clean(
         side,
         rec,

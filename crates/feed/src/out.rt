@@ -25,8 +25,8 @@ fn note(entries: &mut [u64], frame: u32, answers: &[f32])
     ensures { entries.new
         ≡ tab (length entries.old) (λ j. frame_entry frame j (at answers.now (3 * j))) }
 {
-    for j in 0..entries.len() {
-        entries[j] = entry_of(frame, j, answers[3 * j]);
+    for (j, entry) in entries.iter_mut().enumerate() {
+        *entry = entry_of(frame, j, answers[3 * j]);
     }
 }
 
@@ -37,7 +37,7 @@ fn note_down(records: &mut [u8], side: u32, entries: &[u64])
     ensures { records.new ≡ at_front (records_of side entries.now) records.old }
 {
     let mut counted = [0u64; 2];
-    sheet::parts::records(&mut counted, records, side, entries);
+    sheet::parts::records(&mut counted, records, side, entries).unwrap();
 }
 
 // The records of so many frames, from a frame on: three answers of each are there.
@@ -74,6 +74,6 @@ pub(crate) fn hand_out(
 {
     let bytes = 960 * frames;
     let numbers = 480 * frames;
-    pcm::pack(&mut cleaned[0..bytes], &out[0..numbers]);
+    pcm::pack(&mut cleaned[0..bytes], &out[0..numbers]).unwrap();
     note_each(records, side, frame, answers, frames);
 }

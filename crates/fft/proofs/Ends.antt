@@ -6,12 +6,9 @@ use native.Mathlib.Omega.{arith}
 use borrow.Author.Tests.{eq-eqb, ne_eqb}
 use lib.Seq.{get_or-set_same}
 use Rattle.rules.specs.F32.{at, f32, ◌⊕◌}
-use Rattle.rules.specs.Tab.{tab}
-use Rattle.transforms.specs.Cosine.{cosine}
 use Rattle.fft.specs.Ops.{Complex}
-use Rattle.fft.specs.Fast.{complex_at, split, bin_out, number_out, bin_in, merged, merged_of, sample_out, as_complex}
-use Rattle.fft.specs.Fast.{transformed, forward_over, inverse_over}
-use Rattle.fft.specs.Single.{single, of, fast_forward, fast_inverse}
+use Rattle.fft.specs.Fast.{complex_at, split, bin_out, number_out, bin_in, merged, sample_out}
+use Rattle.fft.specs.Single.{single, of}
 use Rattle.fft.specs.Private.{cx, complex_of, put_four, Filled}
 use Rattle.fft.specs.declared.complex.Cx.{Cx}
 use Rattle.fft.proofs.Laying.{filled_more}
@@ -85,10 +82,6 @@ module _ (z : List Float) where
   unfolding bin_in
   bin_in_480 k e = simp (ne_eqb k 0 (omega arith), eq-eqb k 480 e)
 
-  pub bin_in_mid : (k : ℕ) → 0 < k → k < 480 → bin_in single z k ≡ record { re = at z (2 * k - 1); im = at z (2 * k) }
-  unfolding bin_in
-  bin_in_mid k h g = simp (ne_eqb k 0 (omega arith), ne_eqb k 480 (omega arith))
-
   pub sample_even : (n i : ℕ) → n ≡ 2 * i → at z (480 + i) ≡ sample_out single z n
   unfolding sample_out
   sample_even n i e =
@@ -100,18 +93,3 @@ module _ (z : List Float) where
   sample_odd n i e =
       let half : n / 2 ≡ i = omega arith in
       simp (ne_eqb (n % 2) 0 (omega arith), half)
-
--- ---- the whole
-pub forward_right : (x : List Float) {t out y z : List Float} → out ≡ tab 961 (number_out single (of t) y)
-    → y ≡ transformed single (of t) z → z ≡ as_complex single x → t ≡ cosine
-    → out ≡ fast_forward x
-unfolding fast_forward forward_over
-forward_right x {t} p q r e =
-    rw (← e) (p ∙ ap (λ (l : List Float). tab 961 (number_out single (of t) l)) (q ∙ ap (transformed single (of t)) r))
-
-pub inverse_right : (x : List Float) {t out y z : List Float} → out ≡ tab 960 (sample_out single y)
-    → y ≡ transformed single (of t) z → z ≡ merged_of single (of t) x → t ≡ cosine
-    → out ≡ fast_inverse x
-unfolding fast_inverse inverse_over
-inverse_right x {t} p q r e =
-    rw (← e) (p ∙ ap (λ (l : List Float). tab 960 (sample_out single l)) (q ∙ ap (transformed single (of t)) r))

@@ -1,5 +1,5 @@
--- A list of complex numbers that is filled four lanes at a time: `begun` shows `Laid` where a stage begins, `lay` adds
--- the bins of four lanes, row by row, and `laid_all` reads it after the last. Assumes nothing.
+-- A list of complex numbers that is filled four lanes at a time: `begun` shows `Laid` where a stage begins, `laid_bins`
+-- adds the bins of four lanes, row by row, and `laid_all` reads it after the last. Assumes nothing.
 use Rattle.std.specs.Prelude.{◌+◌, ◌-◌, ◌*◌, ◌/◌, ◌%◌, ◌≤◌, ◌<◌, ◌≡◌}
 use Rattle.rules.proofs.Common.{ℕ, zero, suc, cond, List, refl, sym, ap, ◌∙◌}
 use Rattle.rules.proofs.Common.{ltb, length, set, length-set}
@@ -16,13 +16,9 @@ use Rattle.rules.proofs.Lists.{length_tab, get_d_tab, tab_same}
 use Rattle.fft.specs.Ops.{Complex}
 use Rattle.fft.specs.Fast.{complex_at, complexes, stage}
 use Rattle.fft.specs.Single.{single}
-use Rattle.fft.specs.Private.{put_four, put_complex, put_twos, put_threes, put_fours, put_fives, complex_of, twos}
-use Rattle.fft.specs.Private.{threes, fours, fives, cx, Laid, Filled}
+use Rattle.fft.specs.Private.{put_four, put_complex, put_bins, complex_of, bins, item}
+use Rattle.fft.specs.Private.{cx, Laid, Filled}
 use Rattle.fft.specs.declared.complex.Cx.{Cx}
-use Rattle.fft.specs.declared.bins.Twos.{Twos}
-use Rattle.fft.specs.declared.bins.Threes.{Threes}
-use Rattle.fft.specs.declared.bins.Fours.{Fours}
-use Rattle.fft.specs.declared.bins.Fives.{Fives}
 
 pub below_or : (a b : ℕ) → (a < b) ⊎ (b ≤ a)
 below_or a zero = inr (omega arith)
@@ -146,7 +142,7 @@ module _ (r n : ℕ) (g : ℕ → ℕ → Complex Float) (whole : n * r ≡ 480)
     pub lay_begin : {held : List Float} → Laid r n g i held → Laying r n g i 0 held
     lay_begin h = record { long = h.long; behind = h.behind; here = λ a b h k. absurd (omega arith) }
 
-    lay_more : (k : ℕ) {held : List Float} {w x y v : Cx} → Laying r n g i k held → k < r → i + 4 ≤ n
+    pub lay_more : (k : ℕ) {held : List Float} {w x y v : Cx} → Laying r n g i k held → k < r → i + 4 ≤ n
         → complex_of w ≡ g i k → complex_of x ≡ g (i + 1) k → complex_of y ≡ g (i + 2) k → complex_of v ≡ g (i + 3) k
         → Laying r n g i (k + 1) (put_complex held (n * k + i) w x y v)
     lay_more k {held} {w} {x} {y} {v} h inside room e₀ e₁ e₂ e₃ =
@@ -244,86 +240,22 @@ module _ (r n : ℕ) (g : ℕ → ℕ → Complex Float) (whole : n * r ≡ 480)
   pub laid_all : 0 < n → (i : ℕ) {held : List Float} → i ≤ n → n ≤ i → Laid r n g i held → held ≡ stage n g
   laid_all pos i below above h = let e : i ≡ n = omega arith in laid pos (rw e at h)
 
--- one more put onto what is known
-pub then_put : {last before xs : List Float} (i : ℕ) (w x y v : Cx) → last ≡ put_complex before i w x y v → before ≡ xs
-    → last ≡ put_complex xs i w x y v
-then_put i w x y v e d = e ∙ ap (λ (l : List Float). put_complex l i w x y v) d
-
 -- ---- the bins of four lanes
-pub laid_twos : (g : ℕ → ℕ → Complex Float) (i : ℕ) {held now : List Float} {w x y v : Twos} → i + 4 ≤ 240
-    → Laid 2 240 g i held
-    → w ≡ twos (g i) → x ≡ twos (g (i + 1)) → y ≡ twos (g (i + 2)) → v ≡ twos (g (i + 3))
-    → now ≡ put_twos held i w x y v
-    → Laid 2 240 g (i + 4) now
-unfolding put_twos
-laid_twos g i room h p q u t e =
-    rw e (lay_end 2 240 g refl i
-    (lay_at 2 240 g refl i 1 (omega arith)
-    (lay_at 2 240 g refl i 0 (omega arith) (lay_begin 2 240 g refl i h) (omega arith) room
-    (ap (λ (s : Twos). complex_of s.a) p) (ap (λ (s : Twos). complex_of s.a) q)
-    (ap (λ (s : Twos). complex_of s.a) u) (ap (λ (s : Twos). complex_of s.a) t)) (omega arith) room
-    (ap (λ (s : Twos). complex_of s.b) p) (ap (λ (s : Twos). complex_of s.b) q)
-    (ap (λ (s : Twos). complex_of s.b) u) (ap (λ (s : Twos). complex_of s.b) t)))
+pub item_of : (r k : ℕ) (f : ℕ → Complex Float) {w : List Cx} → k < r → w ≡ bins r f → complex_of (item w k) ≡ f k
+item_of r k f h e = rw e (ap complex_of (get_d_tab r (λ k. cx (f k)) k (record { re = nan; im = nan }) h))
 
-pub laid_threes : (g : ℕ → ℕ → Complex Float) (i : ℕ) {held now : List Float} {w x y v : Threes} → i + 4 ≤ 160
-    → Laid 3 160 g i held
-    → w ≡ threes (g i) → x ≡ threes (g (i + 1)) → y ≡ threes (g (i + 2)) → v ≡ threes (g (i + 3))
-    → now ≡ put_threes held i w x y v → Laid 3 160 g (i + 4) now
-unfolding put_threes
-laid_threes g i room h p q u t e =
-    rw e (lay_end 3 160 g refl i
-    (lay_at 3 160 g refl i 2 (omega arith)
-    (lay_at 3 160 g refl i 1 (omega arith)
-    (lay_at 3 160 g refl i 0 (omega arith) (lay_begin 3 160 g refl i h) (omega arith) room
-    (ap (λ (s : Threes). complex_of s.a) p) (ap (λ (s : Threes). complex_of s.a) q)
-    (ap (λ (s : Threes). complex_of s.a) u) (ap (λ (s : Threes). complex_of s.a) t)) (omega arith) room
-    (ap (λ (s : Threes). complex_of s.b) p) (ap (λ (s : Threes). complex_of s.b) q)
-    (ap (λ (s : Threes). complex_of s.b) u) (ap (λ (s : Threes). complex_of s.b) t)) (omega arith) room
-    (ap (λ (s : Threes). complex_of s.d) p) (ap (λ (s : Threes). complex_of s.d) q)
-    (ap (λ (s : Threes). complex_of s.d) u) (ap (λ (s : Threes). complex_of s.d) t)))
-
-pub laid_fours : (g : ℕ → ℕ → Complex Float) (i : ℕ) {held now : List Float} {w x y v : Fours} → i + 4 ≤ 120
-    → Laid 4 120 g i held
-    → w ≡ fours (g i) → x ≡ fours (g (i + 1)) → y ≡ fours (g (i + 2)) → v ≡ fours (g (i + 3))
-    → now ≡ put_fours held i w x y v → Laid 4 120 g (i + 4) now
-unfolding put_fours
-laid_fours g i room h p q u t e =
-    rw e (lay_end 4 120 g refl i
-    (lay_at 4 120 g refl i 3 (omega arith)
-    (lay_at 4 120 g refl i 2 (omega arith)
-    (lay_at 4 120 g refl i 1 (omega arith)
-    (lay_at 4 120 g refl i 0 (omega arith) (lay_begin 4 120 g refl i h) (omega arith) room
-    (ap (λ (s : Fours). complex_of s.a) p) (ap (λ (s : Fours). complex_of s.a) q)
-    (ap (λ (s : Fours). complex_of s.a) u) (ap (λ (s : Fours). complex_of s.a) t)) (omega arith) room
-    (ap (λ (s : Fours). complex_of s.b) p) (ap (λ (s : Fours). complex_of s.b) q)
-    (ap (λ (s : Fours). complex_of s.b) u) (ap (λ (s : Fours). complex_of s.b) t)) (omega arith) room
-    (ap (λ (s : Fours). complex_of s.d) p) (ap (λ (s : Fours). complex_of s.d) q)
-    (ap (λ (s : Fours). complex_of s.d) u) (ap (λ (s : Fours). complex_of s.d) t)) (omega arith) room
-    (ap (λ (s : Fours). complex_of s.e) p) (ap (λ (s : Fours). complex_of s.e) q)
-    (ap (λ (s : Fours). complex_of s.e) u) (ap (λ (s : Fours). complex_of s.e) t)))
-
-pub laid_fives : (g : ℕ → ℕ → Complex Float) (i : ℕ) {held now : List Float} {w x y v : Fives} → i + 4 ≤ 96
-    → Laid 5 96 g i held
-    → w ≡ fives (g i) → x ≡ fives (g (i + 1)) → y ≡ fives (g (i + 2)) → v ≡ fives (g (i + 3))
-    → now ≡ put_fives held i w x y v → Laid 5 96 g (i + 4) now
-unfolding put_fives
-laid_fives g i room h p q u t e =
-    rw e (lay_end 5 96 g refl i
-    (lay_at 5 96 g refl i 4 (omega arith)
-    (lay_at 5 96 g refl i 3 (omega arith)
-    (lay_at 5 96 g refl i 2 (omega arith)
-    (lay_at 5 96 g refl i 1 (omega arith)
-    (lay_at 5 96 g refl i 0 (omega arith) (lay_begin 5 96 g refl i h) (omega arith) room
-    (ap (λ (s : Fives). complex_of s.a) p) (ap (λ (s : Fives). complex_of s.a) q)
-    (ap (λ (s : Fives). complex_of s.a) u) (ap (λ (s : Fives). complex_of s.a) t)) (omega arith) room
-    (ap (λ (s : Fives). complex_of s.b) p) (ap (λ (s : Fives). complex_of s.b) q)
-    (ap (λ (s : Fives). complex_of s.b) u) (ap (λ (s : Fives). complex_of s.b) t)) (omega arith) room
-    (ap (λ (s : Fives). complex_of s.d) p) (ap (λ (s : Fives). complex_of s.d) q)
-    (ap (λ (s : Fives). complex_of s.d) u) (ap (λ (s : Fives). complex_of s.d) t)) (omega arith) room
-    (ap (λ (s : Fives). complex_of s.e) p) (ap (λ (s : Fives). complex_of s.e) q)
-    (ap (λ (s : Fives). complex_of s.e) u) (ap (λ (s : Fives). complex_of s.e) t)) (omega arith) room
-    (ap (λ (s : Fives). complex_of s.f) p) (ap (λ (s : Fives). complex_of s.f) q)
-    (ap (λ (s : Fives). complex_of s.f) u) (ap (λ (s : Fives). complex_of s.f) t)))
+module _ (r n : ℕ) (whole : n * r ≡ 480) (g : ℕ → ℕ → Complex Float) (i : ℕ) (room : i + 4 ≤ n) where
+  pub laid_bins : {held now : List Float} {w x y v : List Cx} → Laid r n g i held
+      → w ≡ bins r (g i) → x ≡ bins r (g (i + 1)) → y ≡ bins r (g (i + 2)) → v ≡ bins r (g (i + 3))
+      → now ≡ put_bins r held n i w x y v → Laid r n g (i + 4) now
+  laid_bins {held} {now} {w} {x} {y} {v} h p q u t e = rw e (lay_end r n g whole i (upto r (omega arith)))
+    where
+      upto : (k : ℕ) → k ≤ r → Laying r n g i k (put_bins k held n i w x y v)
+      upto zero below = lay_begin r n g whole i h
+      upto (suc k) below =
+          rw (← add-one k) (lay_more r n g whole i k (upto k (omega arith)) (omega arith) room
+          (item_of r k (g i) (omega arith) p) (item_of r k (g (i + 1)) (omega arith) q)
+          (item_of r k (g (i + 2)) (omega arith) u) (item_of r k (g (i + 3)) (omega arith) t))
 
 -- ---- lists filled from the front
 module _ (n : ℕ) (f : ℕ → Float) where

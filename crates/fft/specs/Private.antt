@@ -1,16 +1,13 @@
 -- For the contracts of private functions: the structs of the code, and a list of complex numbers that is filled four
 -- lanes at a time.
 use Rattle.std.specs.Prelude.{◌+◌, ◌*◌, ◌<◌, ◌≡◌}
-use Rattle.rules.specs.Common.{ℕ, List, length, set, Float}
+use Rattle.rules.specs.Common.{ℕ, zero, suc, List, length, get_or, set, Float, nan}
+use Rattle.rules.specs.Tab.{tab}
 use Rattle.rules.specs.F32.{at}
 use Rattle.fft.specs.Ops.{Complex}
 use Rattle.fft.specs.Fast.{complex_at}
 use Rattle.fft.specs.Single.{single}
 use Rattle.fft.specs.declared.complex.Cx.{Cx}
-use Rattle.fft.specs.declared.bins.Twos.{Twos}
-use Rattle.fft.specs.declared.bins.Threes.{Threes}
-use Rattle.fft.specs.declared.bins.Fours.{Fours}
-use Rattle.fft.specs.declared.bins.Fives.{Fives}
 
 -- A complex number as the code has it.
 abbrev pub cx : Complex Float → Cx
@@ -20,21 +17,9 @@ cx z = record { re = z.re; im = z.im }
 abbrev pub complex_of : Cx → Complex Float
 complex_of z = record { re = z.re; im = z.im }
 
--- Two bins.
-abbrev pub twos : (ℕ → Complex Float) → Twos
-twos f = record { a = cx (f 0); b = cx (f 1) }
-
--- Three bins.
-abbrev pub threes : (ℕ → Complex Float) → Threes
-threes f = record { a = cx (f 0); b = cx (f 1); d = cx (f 2) }
-
--- Four bins.
-abbrev pub fours : (ℕ → Complex Float) → Fours
-fours f = record { a = cx (f 0); b = cx (f 1); d = cx (f 2); e = cx (f 3) }
-
--- Five bins.
-abbrev pub fives : (ℕ → Complex Float) → Fives
-fives f = record { a = cx (f 0); b = cx (f 1); d = cx (f 2); e = cx (f 3); f = cx (f 4) }
+-- The first r bins.
+abbrev pub bins : ℕ → (ℕ → Complex Float) → List Cx
+bins r f = tab r (λ k. cx (f k))
 
 -- Stores four neighbouring numbers.
 unfoldable pub put_four : List Float → ℕ → Float → Float → Float → Float → List Float
@@ -50,32 +35,15 @@ pub record Laid (r n : ℕ) (g : ℕ → ℕ → Complex Float) (i : ℕ) (held 
   pub long : length held ≡ 960
   pub behind : (a b : ℕ) → a < r → b < i → complex_at single held (n * a + b) ≡ g b a
 
--- Stores the bins of four lanes from i on, in a stage of twos.
-unfoldable pub put_twos : List Float → ℕ → Twos → Twos → Twos → Twos → List Float
-put_twos xs i w x y v = put_complex (put_complex xs i w.a x.a y.a v.a) (240 + i) w.b x.b y.b v.b
+-- Bin k of a lane.
+abbrev pub item : List Cx → ℕ → Cx
+item w k = get_or w k (record { re = nan; im = nan })
 
--- The same in a stage of threes.
-unfoldable pub put_threes : List Float → ℕ → Threes → Threes → Threes → Threes → List Float
-put_threes xs i w x y v =
-    put_complex (put_complex (put_complex xs i w.a x.a y.a v.a) (160 + i) w.b x.b y.b v.b)
-    (320 + i) w.d x.d y.d v.d
-
--- The same in a stage of fours.
-unfoldable pub put_fours : List Float → ℕ → Fours → Fours → Fours → Fours → List Float
-put_fours xs i w x y v =
-    put_complex
-    (put_complex (put_complex (put_complex xs i w.a x.a y.a v.a) (120 + i) w.b x.b y.b v.b)
-    (240 + i) w.d x.d y.d v.d)
-    (360 + i) w.e x.e y.e v.e
-
--- The same in a stage of fives.
-unfoldable pub put_fives : List Float → ℕ → Fives → Fives → Fives → Fives → List Float
-put_fives xs i w x y v =
-    put_complex
-    (put_complex
-    (put_complex (put_complex (put_complex xs i w.a x.a y.a v.a) (96 + i) w.b x.b y.b v.b)
-    (192 + i) w.d x.d y.d v.d)
-    (288 + i) w.e x.e y.e v.e) (384 + i) w.f x.f y.f v.f
+-- Stores the first k bins of four lanes from i on, in a stage of n lanes.
+abbrev pub put_bins : ℕ → List Float → ℕ → ℕ → List Cx → List Cx → List Cx → List Cx → List Float
+put_bins zero xs n i w x y v = xs
+put_bins (suc k) xs n i w x y v =
+    put_complex (put_bins k xs n i w x y v) (n * k + i) (item w k) (item x k) (item y k) (item v k)
 
 -- The first i of n numbers are in their places.
 pub record Filled (n : ℕ) (f : ℕ → Float) (i : ℕ) (held : List Float) : Type 0 where

@@ -1,4 +1,6 @@
 // What comes before and after the complex transform in the forward transform: samples in, bins out.
+// Stays: the loops of pack and middle_bins. Their numbers are counted with, to say where a four begins, so an iterator
+// is no plainer.
 ghost use Rattle.std.specs.Prelude.{◌≡◌, ◌+◌, ◌*◌, ◌-◌, ◌≤◌, ◌<◌, length};
 ghost use Rattle.rules.specs.Tab.{tab};
 ghost use Rattle.fft.specs.Fast.{pair, as_complex, split, bin_out, number_out};
@@ -8,8 +10,8 @@ ghost use Rattle.fft.specs.Private.{cx, complex_of, Laid, Filled};
 use crate::complex::{Cx, entry, put, put_four};
 
 // Two samples as a complex number.
-fn pair(x: &[f32], i: usize) -> Cx
-    requires { (length x.now ≡ 960) × (i < 480) }
+fn pair(x: &[f32; 960], i: usize) -> Cx
+    requires { i < 480 }
     ensures { result ≡ cx (pair single x.now i) }
 {
     Cx {
@@ -19,9 +21,9 @@ fn pair(x: &[f32], i: usize) -> Cx
 }
 
 // Four of them.
-fn pack_block(out: &mut [f32], x: &[f32], i: usize)
+fn pack_block(out: &mut [f32; 960], x: &[f32; 960], i: usize)
     requires laid { Laid 1 480 (λ b a. pair single x.now b) i out.old }
-    requires x_len { (length x.now ≡ 960) × (i + 4 ≤ 480) }
+    requires room { i + 4 ≤ 480 }
     ensures { Laid 1 480 (λ b a. pair single x.now b) (i + 4) out.new }
 {
     let w = pair(x, i);
@@ -32,8 +34,7 @@ fn pack_block(out: &mut [f32], x: &[f32], i: usize)
 }
 
 // All samples as complex numbers.
-pub(crate) fn pack(out: &mut [f32], x: &[f32])
-    requires { (length out.old ≡ 960) × (length x.now ≡ 960) }
+pub(crate) fn pack(out: &mut [f32; 960], x: &[f32; 960])
     ensures { out.new ≡ as_complex single x.now }
 {
     for b in 0..120 {
@@ -47,16 +48,15 @@ fn split(c: &[f32; 960], k: usize, a: Cx, b: Cx) -> Cx
     ensures { result ≡ cx (split single (of c.now) k (complex_of a) (complex_of b)) }
 {
     let h = c[160];
-    let er = h * (a.re + b.re);
-    let ei = h * (a.im - b.im);
-    let or = h * (a.im + b.im);
-    let oi = h * (b.re - a.re);
-    let p = c[k];
-    let q = c[k + 240];
-    Cx {
-        re: er + (or * p - oi * q),
-        im: ei + (or * q + oi * p),
-    }
+    let even = Cx {
+        re: a.re + b.re,
+        im: a.im - b.im,
+    };
+    let odd = Cx {
+        re: a.im + b.im,
+        im: b.re - a.re,
+    };
+    even.times(h) + odd.times(h).turned_back(c, k)
 }
 
 // Bin k, for k from 1 to 479.
@@ -69,18 +69,16 @@ fn bin(c: &[f32; 960], z: &[f32; 960], k: usize) -> Cx
     split(c, k, a, b)
 }
 
-// Bin k, for any k up to 480. For bin 480 the rule of the others would read after the end.
-fn any_bin(c: &[f32; 960], z: &[f32; 960], k: usize) -> Cx
-    requires { k ≤ 480 }
-    ensures { result ≡ cx (bin_out single (of c.now) z.now k) }
+// Bin 480. The rule of the others would read after the end.
+fn bin_480(c: &[f32; 960], z: &[f32; 960]) -> Cx
+    ensures { result ≡ cx (bin_out single (of c.now) z.now 480) }
 {
-    let a = entry(z, k % 480);
-    let b = entry(z, (480 - k) % 480);
-    split(c, k, a, b)
+    let a = entry(z, 0);
+    split(c, 480, a, a)
 }
 
 // Stores four bins.
-fn four_bins(out: &mut [f32], c: &[f32; 960], z: &[f32; 960], k: usize)
+fn four_bins(out: &mut [f32; 961], c: &[f32; 960], z: &[f32; 960], k: usize)
     requires filled { Filled 961 (number_out single (of c.now) z.now) (2 * k - 1) out.old }
     requires k_range { (0 < k) × (k + 4 ≤ 480) }
     ensures { Filled 961 (number_out single (of c.now) z.now) (2 * k + 7)
@@ -95,20 +93,20 @@ fn four_bins(out: &mut [f32], c: &[f32; 960], z: &[f32; 960], k: usize)
 }
 
 // Stores bins 477 to 480.
-fn last_bins(out: &mut [f32], c: &[f32; 960], z: &[f32; 960])
+fn last_bins(out: &mut [f32; 961], c: &[f32; 960], z: &[f32; 960])
     requires { Filled 961 (number_out single (of c.now) z.now) 953 out.old }
     ensures { Filled 961 (number_out single (of c.now) z.now) 961 out.new }
 {
-    let w = any_bin(c, z, 477);
-    let x = any_bin(c, z, 478);
-    let y = any_bin(c, z, 479);
-    let v = any_bin(c, z, 480);
+    let w = bin(c, z, 477);
+    let x = bin(c, z, 478);
+    let y = bin(c, z, 479);
+    let v = bin_480(c, z);
     put_four(out, 953, w.re, w.im, x.re, x.im);
     put_four(out, 957, y.re, y.im, v.re, v.im);
 }
 
 // Stores bins 1 to 476.
-fn middle_bins(out: &mut [f32], c: &[f32; 960], z: &[f32; 960])
+fn middle_bins(out: &mut [f32; 961], c: &[f32; 960], z: &[f32; 960])
     requires { Filled 961 (number_out single (of c.now) z.now) 1 out.old }
     ensures { Filled 961 (number_out single (of c.now) z.now) 953 out.new }
 {
@@ -118,16 +116,15 @@ fn middle_bins(out: &mut [f32], c: &[f32; 960], z: &[f32; 960])
 }
 
 // Stores bin 0.
-fn bin_0(out: &mut [f32], c: &[f32; 960], z: &[f32; 960])
-    requires { length out.old ≡ 961 }
+fn bin_0(out: &mut [f32; 961], c: &[f32; 960], z: &[f32; 960])
     ensures { Filled 961 (number_out single (of c.now) z.now) 1 out.new }
 {
     out[0] = z[0] + z[480];
 }
 
 // Stores all bins.
-pub(crate) fn spectrum(out: &mut [f32], c: &[f32; 960], z: &[f32; 960])
-    requires { length out.old ≡ 961 }
+#[tactic(auto, using(crate::proofs::Laying::filled_all))]
+pub(crate) fn spectrum(out: &mut [f32; 961], c: &[f32; 960], z: &[f32; 960])
     ensures { out.new ≡ tab 961 (number_out single (of c.now) z.now) }
 {
     bin_0(out, c, z);

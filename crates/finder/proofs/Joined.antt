@@ -1,20 +1,21 @@
 -- What the calls ensure, in a row. Assumes nothing.
-use Rattle.std.specs.Prelude.{◌-◌, ◌≤◌, ◌<◌, ◌∷◌, ◌≡◌}
-use Rattle.rules.proofs.Common.{ℕ, Bool, cond, List, [], refl, ap, ◌∙◌, length, take, drop}
+use Rattle.std.specs.Prelude.{◌+◌, ◌-◌, ◌≤◌, ◌<◌, ◌∷◌, ◌≡◌, Result, Ok, Err}
+use Rattle.rules.proofs.Common.{ℕ, Bool, cond, List, [], refl, sym, ap, ◌∙◌, length, take, drop}
 use Rattle.rules.proofs.Common.{set, length-drop, Float, lt}
 use native.Mathlib.Omega.{arith}
 use lib.Seq.{take_all}
 use Rattle.rules.specs.F32.{◌⊕◌, ◌⊘◌, at, f32}
-use Rattle.rules.specs.Leaf.{Leaf, ◌leaving◌}
+use Rattle.rules.specs.Leaf.{Leaf}
 use Rattle.rules.specs.Tab.{tab}
-use Rattle.rules.proofs.Refusals.{fitting, left}
-use Rattle.rules.proofs.Lists.{length_tab, Filling}
-use Rattle.pitch.specs.Xcorr.{pitch_xcorr, XcorrFits}
+use Rattle.rules.proofs.Refusals.{fitting}
+use Rattle.rules.proofs.Lists.{Filling}
+use Rattle.pitch.specs.Xcorr.{pitch_xcorr}
 use Rattle.pitch.specs.Downsample.{downsampled}
-use Rattle.pitch_search.specs.Best.{best_of, first_of, second_of, BestFits}
-use Rattle.pitch_search.specs.Inner.{inner_prod, sum_of, InnerFits}
+use Rattle.pitch_search.specs.Best.{best_of, first_of, second_of}
+use Rattle.pitch_search.specs.Inner.{inner_prod, InnerFits}
 use Rattle.pitch_search.specs.declared.Pitches.{Pitches}
-use Rattle.pitch_search.specs.declared.Product.{Product}
+use Rattle.rules.specs.declared.refusal.Refusal.{Refusal}
+use Rattle.rules.specs.declared.refusal.Refusal.TheVariants.{WrongLength}
 use Rattle.finder.specs.declared.Pitch.{Pitch}
 use Rattle.finder.specs.declared.doubling.Asked.{Asked}
 use Rattle.finder.specs.declared.doubling.Chosen.{Chosen}
@@ -22,23 +23,29 @@ use Rattle.finder.specs.Doubling.{pitch_gain, product_at, yy_lookup, second_plac
 use Rattle.finder.specs.Doubling.{gain_of, period_at, removed, remove_doubling}
 use Rattle.finder.specs.Finder.{process}
 use Rattle.finder.specs.Search.{every_second, coarse, fine, interpolated, pitch_search}
-use Rattle.finder.proofs.Ranges.{coarse_small, length_fine, best_small, search_small}
+use Rattle.finder.proofs.Ranges.{coarse_small, best_small, search_small}
 
 -- a part up to the end is all that is left
-rest : (x : List Float) (from : ℕ) → take (length x - from) (drop from x) ≡ drop from x
-rest x from = take_all (length x - from) (drop from x) (simp length-drop (omega arith))
+rest : (x : List Float) (from n : ℕ) → length x ≡ from + n → take n (drop from x) ≡ drop from x
+rest x from n size = take_all n (drop from x) (simp length-drop (omega arith))
+
+-- the sum in an answer, or 0 if it was refused
+abbrev sum_of : Result Float Refusal → Float
+sum_of (Ok sum) = sum
+sum_of (Err refusal) = f32 0
 
 -- the last 480 numbers with those from a place on
-pub inner_at : (x : List Float) (from : ℕ) {p : Product} {v : Float} → length x ≡ 864 → from ≤ 384 → v ≡ sum_of p
-    → Leaf (InnerFits (length (take (length x - 384) (drop 384 x)))
-    (length (take (length x - from) (drop from x))) 480) p
-    (Product.Sum (inner_prod (take (length x - 384) (drop 384 x)) (take (length x - from) (drop from x)) 480))
-    (Product.Refused 5)
+pub inner_at : (x : List Float) (from : ℕ) {p : Result Float Refusal} {v : Float} → length x ≡ 864 → from ≤ 384
+    → p ≡ Ok v
+    → Leaf (InnerFits (length (take 480 (drop 384 x))) (length (take (864 - from) (drop from x))) 480) p
+    (Ok (inner_prod (take 480 (drop 384 x)) (take (864 - from) (drop from x)) 480)) (Err WrongLength)
     → v ≡ inner_prod (drop 384 x) (drop from x) 480
 inner_at x from size h e leaf =
-    e ∙ ap sum_of (fitting leaf
-    (record { left = simp (rest, length-drop) (omega arith); right = simp (rest, length-drop) (omega arith) }))
-    ∙ rw (rest x 384, rest x from)
+    let left = rest x 384 480 (omega arith) in
+    let right = rest x from (864 - from) (omega arith) in
+    ap sum_of (sym e ∙ fitting leaf
+    (record { left = rw left (simp length-drop (omega arith)); right = rw right (simp length-drop (omega arith)) }))
+    ∙ rw (left, right)
 
 -- a loop that begins behind the first place
 pub filled_first : (f : ℕ → Float) (xs : List Float) {v : Float} → 0 < length xs → v ≡ f 0
@@ -74,47 +81,29 @@ doubling_of x t0 prev last energy product table first found at_last gained =
 -- ---- the search
 
 -- the coarse one
-pub coarse_of : (buf : List Float) {x4 y4 xcorr old : List Float} {n m l r : ℕ} {found : Pitches} → n ≡ 240 → m ≡ 387
-    → l ≡ 147
-    → x4 ≡ every_second n (take (length buf - 384) (drop 384 buf)) → y4 ≡ every_second m buf
-    → Leaf (XcorrFits (length x4) (length y4) l) (r leaving xcorr) (0 leaving pitch_xcorr x4 y4 l) (5 leaving old)
-    → Leaf (BestFits (length xcorr) (length y4) 240) found (best_of xcorr y4 240) (Pitches.Refused 5)
-    → found ≡ coarse buf
-unfolding coarse pitch_xcorr
-coarse_of buf {x4} {y4} {xcorr} {l = l} n_is m-is l-is xs ys correlated picked =
-    let long_x : length x4 ≡ 240 = ap length xs ∙ length_tab _ _ ∙ n_is in
-    let long_y : length y4 ≡ 387 = ap length ys ∙ length_tab _ _ ∙ m-is in
-    let c : xcorr ≡ pitch_xcorr x4 y4 l =
-    left correlated (record { enough = λ h. omega arith; rounded = λ h. omega arith }) in
-    let long_c : length xcorr ≡ 147 = ap length c ∙ length_tab _ _ ∙ l-is in
-    fitting picked (record { enough = omega arith }) ∙ rw (c, l-is, xs, ys, n_is, m-is, rest buf 384)
+pub coarse_of : (buf : List Float) {x4 y4 xcorr : List Float} {found : Result Pitches Refusal} {pitches : Pitches}
+    → length buf ≡ 864 → found ≡ Ok pitches
+    → x4 ≡ every_second 240 (take 480 (drop 384 buf)) → y4 ≡ every_second 387 buf
+    → xcorr ≡ pitch_xcorr x4 y4 147 → found ≡ best_of xcorr y4 240 → Ok pitches ≡ coarse buf
+unfolding coarse
+coarse_of buf size ok xs ys c best = sym ok ∙ best ∙ rw (c, xs, ys, rest buf 384 480 size)
 
-pub near_of : (buf : List Float) {p : Pitches} {first second : ℕ} → p ≡ coarse buf → first ≡ first_of p
-    → second ≡ second_of p → (first < 147) × (second < 147)
-near_of buf e f s = rw (f, s, e) (coarse_small buf)
+pub near_of : (buf : List Float) {pitches : Pitches} → Ok pitches ≡ coarse buf
+    → (pitches.first < 147) × (pitches.second < 147)
+near_of buf {pitches} e =
+    let small = coarse_small buf in
+    (rw (ap first_of e) small.0, rw (ap second_of e) small.1)
 
 -- the finer one
-pub best_of_lem : (buf : List Float) (first second : ℕ) {xcorr : List Float} {found : Pitches} {best : ℕ}
-    → length buf ≡ 864
-    → xcorr ≡ fine buf first second
-    → Leaf (BestFits (length xcorr) (length buf) 480) found (best_of xcorr buf 480) (Pitches.Refused 5)
-    → best ≡ first_of found
-    → best ≡ first_of (best_of xcorr buf 480)
-best_of_lem buf first second size same leaf e =
-    let count = ap length same ∙ length_fine buf first second in
-    e ∙ ap first_of (fitting leaf (record { enough = omega (arith, count) }))
+pub best_below : (buf : List Float) (first second : ℕ) {xcorr : List Float} {pitches : Pitches}
+    → xcorr ≡ fine buf first second → Ok pitches ≡ best_of xcorr buf 480 → pitches.first < 294
+best_below buf first second same e = rw (ap first_of e, same) (best_small buf first second)
 
-pub best_below : (buf : List Float) (first second : ℕ) {xcorr : List Float} {best : ℕ} → xcorr ≡ fine buf first second
-    → best ≡ first_of (best_of xcorr buf 480)
-    → best < 294
-best_below buf first second same e = rw (e, same) (best_small buf first second)
-
-pub search_of : (buf : List Float) {p : Pitches} {first second best place : ℕ} {xcorr : List Float} → p ≡ coarse buf
-    → first ≡ first_of p → second ≡ second_of p
-    → xcorr ≡ fine buf first second → best ≡ first_of (best_of xcorr buf 480) → place ≡ interpolated xcorr best
-    → place ≡ pitch_search buf
+pub search_of : (buf : List Float) {near best : Pitches} {place : ℕ} {xcorr : List Float} → Ok near ≡ coarse buf
+    → xcorr ≡ fine buf near.first near.second → Ok best ≡ best_of xcorr buf 480
+    → place ≡ interpolated xcorr best.first → place ≡ pitch_search buf
 unfolding pitch_search
-search_of buf e f s same b place = rw (place, b, same, f, s, e)
+search_of buf e same b place = rw (place, ap first_of b, same, ap first_of e, ap second_of e)
 
 -- ---- the finder
 

@@ -93,9 +93,6 @@ pub check_product : {table : List ℕ} (t0 k : ℕ) → table ≡ second_check �
     → 2 * nat_at table k * t0 ≤ 2 * k * 383
 check_product t0 k same h g other = mul-le-mul (omega (arith, check_small k same g other)) h
 
-pub square_small : (k : ℕ) → k ≤ 15 → 5 * k * k ≤ 75 * 15
-square_small k h = mul-le-mul {n₁ = 5 * k} {m₁ = k} {n₂ = 75} {m₂ = 15} (omega arith) h
-
 pub second_small : (t0 t1 k : ℕ) → t0 ≤ 383 → 2 ≤ k → k ≤ 15 → second_place t0 t1 k ≤ 384
 unfolding second_place
 second_small t0 t1 k h least most = by (eqb k 2) refl (ltb 384 (t1 + t0)) refl

@@ -1,13 +1,12 @@
 -- `PitchFinder::process` of pitch.rs, with `last_period` and `last_gain` as two numbers that go in. They come out as
 -- the period and the gain.
-use Rattle.std.specs.Prelude.{◌-◌}
+use Rattle.std.specs.Prelude.{◌-◌, Result, Ok, Err}
 use Rattle.rules.specs.Common.{ℕ, List, Float}
 use Rattle.rules.specs.F32.{f32}
 use Rattle.pitch.specs.Downsample.{downsampled}
 use Rattle.finder.specs.Doubling.{remove_doubling}
 use Rattle.finder.specs.Kept.{whole_lag}
 use Rattle.finder.specs.Search.{pitch_search}
-use Rattle.finder.specs.declared.Found.{Found}
 use Rattle.finder.specs.declared.Pitch.{Pitch}
 
 unfoldable pub process : ℕ → Float → List Float → Pitch
@@ -17,16 +16,3 @@ process lastPeriod lastGain input = let buf = downsampled input in
 -- with a last period that may be any number
 abbrev pub find : Float → Float → List Float → Pitch
 find lastPeriod lastGain input = process (whole_lag lastPeriod) lastGain input
-
--- an answer's number, its period and its gain
-abbrev pub found_number : Found → ℕ
-found_number (Found.At pitch) = 0
-found_number (Found.Refused n) = n
-
-abbrev pub period_in : Found → ℕ
-period_in (Found.At pitch) = pitch.period
-period_in (Found.Refused n) = 0
-
-abbrev pub gain_in : Found → Float
-gain_in (Found.At pitch) = pitch.gain
-gain_in (Found.Refused n) = f32 0

@@ -1,8 +1,9 @@
 -- `pitch_search` of pitch.rs. `buf` is the text's `pitch_buf`, 864 numbers: x_lp is &buf[384..], and y is buf.
-use Rattle.std.specs.Prelude.{◌+◌, ◌-◌, ◌*◌, ◌&&◌}
+use Rattle.std.specs.Prelude.{◌+◌, ◌-◌, ◌*◌, ◌&&◌, Result}
 use Rattle.rules.specs.Common.{ℕ, cond, List, ltb, drop, Float, lt, neg}
 use Rattle.rules.specs.F32.{◌⊖◌, ◌⊗◌, at, f32, one}
 use Rattle.rules.specs.Tab.{tab}
+use Rattle.rules.specs.declared.refusal.Refusal.{Refusal}
 use Rattle.numbers.specs.Larger.{larger}
 use Rattle.pitch.specs.Xcorr.{pitch_xcorr}
 use Rattle.pitch_search.specs.Best.{best_of, first_of, second_of}
@@ -25,7 +26,7 @@ abbrev pub every_second : ℕ → List Float → List Float
 every_second n xs = tab n (λ j. at xs (2 * j))
 
 -- the two best of 147 lags over x_lp4 and y_lp4
-unfoldable pub coarse : List Float → Pitches
+unfoldable pub coarse : List Float → Result Pitches Refusal
 coarse buf =
     let x4 = every_second 240 (drop 384 buf) in
     let y4 = every_second 387 buf in

@@ -1,8 +1,10 @@
 // `remove_doubling` of pitch.rs: whether a half, a third, down to a fifteenth of the period found fits as well.
-ghost use Rattle.std.specs.Prelude.{◌≡◌, ◌/◌, ◌≤◌, min, length};
+// Stays: `2 ≤ k` and `k ≤ 15` are asked by shorten, second_place, carry, threshold_at and consider. k is multiplied,
+// divided by and looked up with, and the definitions take it as a number, so a type for it is no plainer.
+ghost use Rattle.std.specs.Prelude.{◌≡◌, ◌≤◌};
 ghost use Rattle.finder.specs.Doubling.{pitch_gain, product_at, yy_lookup, shortened, second_check, second_place};
 ghost use Rattle.finder.specs.Doubling.{continuity, threshold};
-ghost use Rattle.finder.specs.Doubling.{preferred, shorter, explained, gain_of, period_at, removed, remove_doubling};
+ghost use Rattle.finder.specs.Doubling.{preferred, shorter, explained, gain_of, period_at, remove_doubling};
 
 use crate::{Pitch, search};
 
@@ -11,6 +13,8 @@ const SECOND_CHECK: [usize; 16] = [0, 0, 3, 2, 3, 2, 5, 2, 3, 2, 3, 2, 5, 2, 3, 
 
 // What each shorter period is held against: the period found, half of the last one, the last gain, the energy, and the
 // gain at the period found.
+// Stays: that `t0` is at most 383 is no fact of the struct, since specs/Doubling makes one of any `t0`, and may not
+// change.
 #[derive(Clone, Copy)]
 pub struct Asked {
     // The period that the search found, halved: `t0` of the text.
@@ -46,17 +50,17 @@ fn pitch_gain(xy: f32, xx: f32, yy: f32) -> f32
 }
 
 // The product of the last 480 numbers with those t before.
-fn product_at(x: &[f32], t: usize) -> f32
-    requires { (length x.now ≡ 864) × (t ≤ 384) }
+fn product_at(x: &[f32; 864], t: usize) -> f32
+    requires { t ≤ 384 }
     ensures { result ≡ product_at x.now t }
 {
-    let from = 384 - t;
-    pitch_search::inner_prod(&x[384..], &x[from..], 480).sum()
+    pitch_search::inner_prod(&x[384..], &x[384 - t..], 480).unwrap()
 }
 
 // The energies of the 480 numbers that lie 0 to 384 back.
-fn look_up(lookup: &mut [f32], x: &[f32], xx: f32)
-    requires { (length lookup.old ≡ 385) × (length x.now ≡ 864) }
+//
+// Stays: the loop counts an index, which is part of sums of indexes, so an iterator is no plainer.
+fn look_up(lookup: &mut [f32; 385], x: &[f32; 864], xx: f32)
     ensures { lookup.new ≡ yy_lookup x.now xx }
 {
     lookup[0] = xx;
@@ -67,6 +71,7 @@ fn look_up(lookup: &mut [f32], x: &[f32], xx: f32)
     }
 }
 
+#[tactic(auto, unfolding(crate::specs::Doubling::second_check))]
 fn second_check() -> [usize; 16]
     ensures { result ≡ second_check }
 {
@@ -100,14 +105,12 @@ fn carry(a: Asked, t1: usize, k: usize) -> f32
     requires { k ≤ 15 }
     ensures { result ≡ continuity a t1 k }
 {
-    let far = search::distance(t1, a.prev);
+    let far = t1.abs_diff(a.prev);
     if far <= 1 {
         return a.last;
     }
-    if far <= 2 {
-        if 5 * k * k < a.t0 {
-            return a.last / 2.0;
-        }
+    if far <= 2 && 5 * k * k < a.t0 {
+        return a.last / 2.0;
     }
     0.0
 }
@@ -128,9 +131,16 @@ fn threshold_at(a: Asked, t1: usize, k: usize) -> f32
 }
 
 // The better of a period of t1 and the best so far.
-fn consider(x: &[f32], lookup: &[f32], a: Asked, t1: usize, k: usize, best: Chosen) -> Chosen
-    requires { (length x.now ≡ 864) × (length lookup.now ≡ 385) × (a.t0 ≤ 383) × (t1 ≤ 383) × (2 ≤ k)
-        × (k ≤ 15) }
+#[tactic(auto, using(crate::proofs::Ranges::second_small))]
+fn consider(
+    x: &[f32; 864],
+    lookup: &[f32; 385],
+    a: Asked,
+    t1: usize,
+    k: usize,
+    best: Chosen,
+) -> Chosen
+    requires { (a.t0 ≤ 383) × (t1 ≤ 383) × (2 ≤ k) × (k ≤ 15) }
     ensures { result ≡ preferred x.now lookup.now a t1 k best }
 {
     let t1b = second_place(a.t0, t1, k);
@@ -139,8 +149,8 @@ fn consider(x: &[f32], lookup: &[f32], a: Asked, t1: usize, k: usize, best: Chos
     let g1 = pitch_gain(xy, a.xx, yy);
     if g1 > threshold_at(a, t1, k) {
         return Chosen {
-            xy: xy,
-            yy: yy,
+            xy,
+            yy,
             t: t1,
             g: g1,
         };
@@ -149,8 +159,10 @@ fn consider(x: &[f32], lookup: &[f32], a: Asked, t1: usize, k: usize, best: Chos
 }
 
 // The best of the period found and its parts, down to 30.
-fn try_shorter(x: &[f32], lookup: &[f32], a: Asked, start: Chosen) -> Chosen
-    requires { (length x.now ≡ 864) × (length lookup.now ≡ 385) × (a.t0 ≤ 383) }
+//
+// Stays: the loop counts the parts of the period, which are numbers of the rule, so an iterator is no plainer.
+fn try_shorter(x: &[f32; 864], lookup: &[f32; 385], a: Asked, start: Chosen) -> Chosen
+    requires { a.t0 ≤ 383 }
     ensures { result ≡ shorter x.now lookup.now a start }
 {
     let mut best = start;
@@ -182,74 +194,48 @@ fn gain_of(best: Chosen) -> f32
 }
 
 // Twice the period t, one more or less where the products beside it lean, and 60 at the least.
-fn period_at(x: &[f32], t: usize) -> usize
-    requires { (length x.now ≡ 864) × (30 ≤ t) × (t ≤ 383) }
+fn period_at(x: &[f32; 864], t: usize) -> usize
+    requires { (30 ≤ t) × (t ≤ 383) }
     ensures { result ≡ period_at x.now t }
 {
     let period = 2 * t + search::lean(product_at(x, t - 1), product_at(x, t), product_at(x, t + 1))
         - 1;
-    if period < 60 {
-        return 60;
-    }
-    period
-}
-
-// Half of the place found, 383 at the most.
-fn half_of(pitch_idx: usize) -> usize
-    ensures { result ≡ min (pitch_idx / 2) 383 }
-{
-    if pitch_idx / 2 < 383 {
-        return pitch_idx / 2;
-    }
-    383
-}
-
-// The work, in lent scratch.
-fn remove_in(lookup: &mut [f32], x: &[f32], t0: usize, prev: usize, last_gain: f32) -> Pitch
-    requires { (length lookup.old ≡ 385) × (length x.now ≡ 864) × (30 ≤ t0) × (t0 ≤ 383) }
-    ensures { result ≡ removed x.now t0 prev last_gain }
-{
-    let xx = product_at(x, 0);
-    let xy = product_at(x, t0);
-    look_up(lookup, x, xx);
-    let yy = lookup[t0];
-    let g0 = pitch_gain(xy, xx, yy);
-    let a = Asked {
-        t0: t0,
-        prev: prev,
-        last: last_gain,
-        xx: xx,
-        g0: g0,
-    };
-    let start = Chosen {
-        xy: xy,
-        yy: yy,
-        t: t0,
-        g: g0,
-    };
-    let best = try_shorter(x, lookup, a, start);
-    Pitch {
-        period: period_at(x, best.t),
-        gain: gain_of(best),
-    }
+    period.max(60)
 }
 
 // The period and the gain, for a place of the search.
 pub(crate) fn remove_doubling(
-    x: &[f32],
+    x: &[f32; 864],
     pitch_idx: usize,
     last_period: usize,
     last_gain: f32,
 ) -> Pitch
-    requires { (length x.now ≡ 864) × (60 ≤ pitch_idx) }
+    requires { 60 ≤ pitch_idx }
     ensures { result ≡ remove_doubling x.now pitch_idx last_period last_gain }
 {
+    let t0 = (pitch_idx / 2).min(383);
+    let xx = product_at(x, 0);
+    let xy = product_at(x, t0);
     let mut lookup = [0.0f32; 385];
-    remove_in(
-        &mut lookup,
-        x,
-        half_of(pitch_idx),
-        last_period / 2,
-        last_gain,
-    )
+    look_up(&mut lookup, x, xx);
+    let yy = lookup[t0];
+    let g0 = pitch_gain(xy, xx, yy);
+    let a = Asked {
+        t0,
+        prev: last_period / 2,
+        last: last_gain,
+        xx,
+        g0,
+    };
+    let start = Chosen {
+        xy,
+        yy,
+        t: t0,
+        g: g0,
+    };
+    let best = try_shorter(x, &lookup, a, start);
+    Pitch {
+        period: period_at(x, best.t),
+        gain: gain_of(best),
+    }
 }

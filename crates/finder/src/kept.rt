@@ -14,6 +14,8 @@ fn nearer(x: f32, k: usize, lag: usize) -> usize
 }
 
 // The largest whole number of 0 to 768 that is not above x; 0 where there is none, and for a NaN.
+//
+// Stays: the loop counts the whole numbers that the rule speaks of, so no form is plainer.
 pub fn whole_lag(x: f32) -> usize
     ensures { result ≡ whole_lag x }
 {

@@ -12,7 +12,7 @@ use Rattle.numbers.proofs.Outputs.{length_outputs}
 use Rattle.bands.proofs.Results.{length_corr}
 use Rattle.model.specs.Model.{read_of}
 use Rattle.model.specs.declared.Model.{Model}
-use Rattle.model.specs.declared.Reading.TheVariants.{Good}
+use Rattle.model.specs.Reading.{Good}
 use Rattle.network.specs.Compute.{Outcome, layers_in_place}
 use Rattle.network.specs.Private.{Lengths}
 use Rattle.network.proofs.Callers.{computed_done, kept}

@@ -1,7 +1,7 @@
 -- What is written to a lent buffer.
---     over_none, over-next, lent-over     nothing is written; two writes that meet are one; a part of a buffer as the
+--     over_none, over_next, lent_over     nothing is written; two writes that meet are one; a part of a buffer as the
 --                                         code lends it
---     onto-more, to_none                  buffers behind those that are written to; a call that writes to no buffer
+--     onto_more, to_none                  buffers behind those that are written to; a call that writes to no buffer
 -- Assumes nothing.
 use Rattle.std.specs.Prelude.{◌+◌, ◌-◌, ◌≤◌, ◌∷◌, ◌++◌, ◌≡◌}
 use Rattle.rules.proofs.Common.{ℕ, List, [], refl, ap, length, Float}

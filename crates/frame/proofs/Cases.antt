@@ -8,16 +8,13 @@ use Rattle.rules.proofs.Refusals.{Right, right}
 use Rattle.samples.specs.Samples.{good}
 use Rattle.model.specs.Model.{read_of}
 use Rattle.model.specs.declared.Model.{Model}
-use Rattle.model.specs.declared.Reading.{Reading}
-use Rattle.model.specs.declared.Reading.TheVariants.{Good, Refused as Unread}
+use Rattle.model.specs.Reading.{Reading, Good, Refused as Unread}
 use Rattle.features.specs.Silence.{energy, is_silent}
 use Rattle.frame.specs.declared.Hearing.{Hearing}
-use Rattle.frame.specs.declared.Reply.TheVariants.{Refused, Misread}
+use Rattle.frame.specs.Reply.{Refused, Misread, Reply, passed, ◌refusedIf◌}
 use Rattle.frame.specs.Share.{PART, kept_ex}
 use Rattle.frame.specs.Heard.{spoken}
-use Rattle.frame.specs.declared.Reply.{Reply}
 use Rattle.frame.specs.Effect.{Effect, refusal, unless}
-use Rattle.frame.specs.Reply.{passed, ◌refusedIf◌}
 use Rattle.frame.specs.Frame.{wrong, done1, call1, done2, call2, silent, heard, done3, counted, modelled, call3}
 use Rattle.frame.specs.Frame.{done4, call4}
 use Rattle.frame.proofs.Tables.{Clear, Each, not_when, by_number, by_rows}

@@ -6,12 +6,9 @@ use borrow.Author.Tests.{eq-eqb, le-ltb}
 use Rattle.samples.specs.Samples.{good}
 use Rattle.model.specs.Model.{read_of}
 use Rattle.model.specs.declared.Model.{Model}
-use Rattle.model.specs.declared.Reading.{Reading}
-use Rattle.model.specs.declared.Reading.TheVariants.{Good, Refused as Unread}
+use Rattle.model.specs.Reading.{Reading, Good, Refused as Unread}
 use Rattle.frame.specs.declared.Hearing.{Hearing}
-use Rattle.frame.specs.declared.Reply.{Reply}
-use Rattle.frame.specs.declared.Reply.TheVariants.{Done, Refused}
-use Rattle.frame.specs.Reply.{passed}
+use Rattle.frame.specs.Reply.{Reply, Done, Refused, passed}
 use Rattle.frame.specs.Share.{PART}
 use Rattle.frame.specs.Effect.{Effect, Worked, refusal}
 use Rattle.frame.specs.Frame.{done1, call1, done2, call2, counted, modelled, done3, call3, done4, call4, checked}

@@ -5,11 +5,9 @@ use native.Mathlib.Omega.{arith}
 use mathlib.Core.Logic.{inl}
 use Rattle.rules.specs.Place.{Place}
 use Rattle.frame.specs.declared.Hearing.{Hearing}
-use Rattle.frame.specs.declared.Reply.{Reply}
-use Rattle.frame.specs.declared.Reply.TheVariants.{Silent, Refused, Misread}
+use Rattle.frame.specs.Reply.{Reply, Silent, Refused, Misread, passed}
 use Rattle.frame.specs.Written.{Written}
 use Rattle.frame.specs.Effect.{Effect}
-use Rattle.frame.specs.Reply.{passed}
 use Rattle.frame.specs.Share.{PART}
 use Rattle.frame.specs.Heard.{spoken}
 use Rattle.frame.specs.Frame.{done1, call1, done2, call2, heard, call3, done4, call4}

@@ -1,3 +1,4 @@
+pub mod Answered
 pub mod Buffers
 pub mod Beside
 pub mod Cases

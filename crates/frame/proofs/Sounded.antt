@@ -1,18 +1,16 @@
 -- A frame is silent or heard, as its sound says. Assumes nothing.
-use Rattle.std.specs.Prelude.{◌∷◌, ◌≡◌}
-use Rattle.rules.proofs.Common.{ℕ, Bool, true, false, cond, true≢false, false≢true, List, [], refl, sym, ap}
-use Rattle.rules.proofs.Common.{◌∙◌, Float}
+use Rattle.std.specs.Prelude.{Some, None, ◌∷◌, ◌≡◌}
+use Rattle.rules.proofs.Common.{ℕ, Bool, true, false, cond, List, [], refl, ap}
+use Rattle.rules.proofs.Common.{Float}
 use Rattle.rules.specs.Place.{get}
 use Rattle.features.specs.Silence.{energy, is_silent, sound_of}
-use Rattle.features.specs.declared.Sound.{Sound}
-use Rattle.features.specs.declared.Sound.TheVariants as sound
 use Rattle.model.specs.declared.Model.{Model}
-use Rattle.frame.specs.declared.Reply.TheVariants.{Silent}
+use Rattle.frame.specs.Reply.{Silent, Heard}
 use Rattle.frame.specs.Share.{kept_x, kept_ex}
 use Rattle.frame.specs.Heard.{Spoken, spoken}
 use Rattle.frame.specs.Effect.{Worked}
 use Rattle.frame.specs.Frame.{silent, heard, done3}
-use Rattle.frame.specs.Private.{spoken_as, quiet, reply_of}
+use Rattle.frame.specs.Private.{spoken_as}
 
 module _ (share : List Float) (index : ℕ) (spectrum logs : List Float) (bytes : List ℕ) (m : Model)
     (held : List Float) where
@@ -22,24 +20,27 @@ module _ (share : List Float) (index : ℕ) (spectrum logs : List Float) (bytes 
   abbrev sum : Float
   sum = energy (get kept_ex share)
 
-  pub is_silent_lem : {s : Sound} {out : List Float} → s ≡ sound_of sum → quiet s ≡ true → out ≡ get kept_x share
+  pub is_silent_lem : {out : List Float} → None ≡ sound_of sum → out ≡ get kept_x share
       → Worked (done3 share index spectrum logs bytes m) Silent share (held ∷ []) (out ∷ [])
   unfolding done3 sound_of
-  is_silent_lem {s} {out} e q x = go (is_silent sum) e
+  is_silent_lem {out} e x = go (is_silent sum) e
     where
-      go : (t : Bool) → s ≡ cond t sound.Silent (sound.Heard sum)
+      go : (t : Bool) → None ≡ cond t None (Some sum)
           → Worked (cond t (silent share) (heard sum whole)) Silent share (held ∷ []) (out ∷ [])
       go true h = record { answers = refl; keeps = refl; writes = ap (λ (l : List Float). l ∷ []) x }
-      go false h = absurd (false≢true (ap quiet (sym h) ∙ q))
+      go false h = cc
 
-  pub is_heard_lem : {s : Sound} {after out : List Float} {voice : Float} → s ≡ sound_of sum → quiet s ≡ false
+  pub is_heard_lem : {after out : List Float} {voice energy : Float} → Some energy ≡ sound_of sum
       → spoken_as after voice out ≡ whole
-      → Worked (done3 share index spectrum logs bytes m) (reply_of s voice) after (held ∷ []) (out ∷ [])
+      → Worked (done3 share index spectrum logs bytes m) (Heard voice energy) after (held ∷ []) (out ∷ [])
   unfolding done3 sound_of
-  is_heard_lem {s} {after} {out} {voice} e q x = rw (← x) (go (is_silent sum) e)
+  is_heard_lem {after} {out} {voice} {energy} e x = rw (← x) (go (is_silent sum) e)
     where
-      go : (t : Bool) → s ≡ cond t sound.Silent (sound.Heard sum)
-          → Worked (cond t (silent share) (heard sum (spoken_as after voice out))) (reply_of s voice) after (held ∷ [])
-          (out ∷ [])
-      go true h = absurd (true≢false (ap quiet (sym h) ∙ q))
-      go false h = rw h (record { answers = refl; keeps = refl; writes = refl })
+      go : (t : Bool) → Some energy ≡ cond t None (Some sum)
+          → Worked (cond t (silent share) (heard sum (spoken_as after voice out))) (Heard voice energy) after
+          (held ∷ []) (out ∷ [])
+      go true h = cc
+      go false h = rw (sound_heard h) (record { answers = refl; keeps = refl; writes = refl })
+        where
+          sound_heard : Some energy ≡ Some sum → energy ≡ sum
+          sound_heard k = cc

@@ -2,10 +2,8 @@
 use Rattle.std.specs.Prelude.{◌∷◌, ◌≡◌}
 use Rattle.rules.proofs.Common.{ℕ, Bool, true, false, cond, true≢false, false≢true, List, [], refl, sym, ◌∙◌}
 use Rattle.rules.proofs.Common.{Float}
-use Rattle.frame.specs.declared.Reply.{Reply}
-use Rattle.frame.specs.declared.Reply.TheVariants.{Done, Refused}
+use Rattle.frame.specs.Reply.{Reply, Done, Refused, passed, ◌refusedIf◌, first_refusal}
 use Rattle.frame.specs.Effect.{Effect, refusal, unless}
-use Rattle.frame.specs.Reply.{passed, ◌refusedIf◌, first_refusal}
 
 -- no row refuses
 abbrev pub Clear : List Reply → Type 0

@@ -2,8 +2,7 @@
 use Rattle.std.specs.Prelude.{◌≡◌}
 use Rattle.rules.specs.Common.{ℕ, cond, List, [], length, drop, Float}
 use Rattle.frame.specs.Written.{Written, onto, fronts}
-use Rattle.frame.specs.Reply.{passed, first_refusal}
-use Rattle.frame.specs.declared.Reply.{Reply}
+use Rattle.frame.specs.Reply.{passed, first_refusal, Reply}
 
 -- The outcome of a call: its answer, the share or store that it leaves, and what it writes to each answer
 -- buffer, in order.

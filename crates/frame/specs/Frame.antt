@@ -13,17 +13,14 @@ use Rattle.numbers.specs.Filter.{high_pass, memory_of, memory_list, memory_after
 use Rattle.bands.specs.Windowed.{windowed}
 use Rattle.model.specs.Model.{read_of}
 use Rattle.model.specs.declared.Model.{Model}
-use Rattle.model.specs.declared.Reading.{Reading}
-use Rattle.model.specs.declared.Reading.TheVariants.{Good, Refused as Unread}
+use Rattle.model.specs.Reading.{Reading, Good, Refused as Unread}
 use Rattle.features.specs.Silence.{energy, is_silent}
 use Rattle.frame.specs.Effect.{Effect, refusal, unless}
-use Rattle.frame.specs.Reply.{◌refusedIf◌}
+use Rattle.frame.specs.Reply.{◌refusedIf◌, Reply, Done, Silent, Heard, Refused, Misread}
 pub use Rattle.frame.specs.Share.{PART}
 use Rattle.frame.specs.Share.{input_mem, synthesis_mem, kept_x, kept_ex, kept_lag, mem_hp_x}
 use Rattle.frame.specs.Heard.{scaled, energies, Spoken, spoken}
 use Rattle.frame.specs.declared.Hearing.{Hearing}
-use Rattle.frame.specs.declared.Reply.{Reply}
-use Rattle.frame.specs.declared.Reply.TheVariants.{Done, Silent, Heard, Refused, Misread}
 
 -- ---- call 1, from `shift_and_filter_input` and `transform_input` of features.rs
 

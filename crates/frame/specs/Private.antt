@@ -1,14 +1,15 @@
 -- For the contracts of private functions: what a function leaves, as a value of the step's definition.
 use Rattle.std.specs.Prelude.{◌≡◌}
-use Rattle.rules.specs.Common.{ℕ, Bool, true, false, List, Float}
+use Rattle.rules.specs.Common.{ℕ, List, Float}
 use Rattle.model.specs.Model.{read_of}
 use Rattle.model.specs.declared.Model.{Model}
-use Rattle.model.specs.declared.Reading.TheVariants.{Good}
-use Rattle.features.specs.declared.Sound.{Sound}
-use Rattle.features.specs.declared.Sound.TheVariants as sound
+use Rattle.model.specs.Reading.{Reading, Good, Refused}
 use Rattle.frame.specs.Heard.{Featured, Rnn, Spoken}
-use Rattle.frame.specs.declared.Reply.{Reply}
-use Rattle.frame.specs.declared.Reply.TheVariants.{Silent, Heard, Refused}
+
+-- A file reads as a model.
+abbrev pub IsModel : Reading → Type 0
+IsModel (Good m) = Unit
+IsModel (Refused n l) = ⊥
 
 -- P holds of the model, if the bytes read as one.
 abbrev pub Reads : List ℕ → (Model → Type 0) → Type 0
@@ -22,13 +23,3 @@ rnn_as share gains voice = record { share = share; gains = gains; voice = voice 
 
 abbrev pub spoken_as : List Float → Float → List Float → Spoken
 spoken_as share voice spectrum = record { share = share; voice = voice; spectrum = spectrum }
-
-abbrev pub quiet : Sound → Bool
-quiet sound.Silent = true
-quiet (sound.Heard e) = false
-quiet (sound.Refused n) = false
-
-abbrev pub reply_of : Sound → Float → Reply
-reply_of sound.Silent voice = Silent
-reply_of (sound.Heard e) voice = Heard voice e
-reply_of (sound.Refused n) voice = Refused n

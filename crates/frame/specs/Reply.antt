@@ -1,8 +1,16 @@
--- What the replies mean.
+-- What a call is told, and what the replies mean.
 use Rattle.std.specs.Prelude.{◌+◌, ◌∷◌}
-use Rattle.rules.specs.Common.{ℕ, Bool, true, false, cond, List, [], ltb}
-use Rattle.frame.specs.declared.Reply.{Reply}
-use Rattle.frame.specs.declared.Reply.TheVariants.{Done, Silent, Heard, Numbered, Refused, Misread}
+use Rattle.rules.specs.Common.{ℕ, Bool, true, false, cond, List, [], ltb, Float}
+
+-- Done, for call 3 silent or heard with voice and energy, for a desk's call 4 the frames and the heard frames so far;
+-- refused with a number of docs/REFUSALS.md, or with 7 and the model's own number and layer.
+pub data Reply : Type 0 where
+  Done : Reply
+  Silent : Reply
+  Heard : (voice energy : Float) → Reply
+  Numbered : (frames heard : ℕ) → Reply
+  Refused : (number : ℕ) → Reply
+  Misread : (number layer : ℕ) → Reply
 
 -- Whether a reply is not a refusal.
 abbrev pub passed : Reply → Bool

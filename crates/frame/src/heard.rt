@@ -9,58 +9,56 @@ ghost use Rattle.frame.specs.Share.{kept_x, kept_ex, lastg};
 ghost use Rattle.frame.specs.Heard.{energies, featured, rnn_of, held_gains, spoken_from, spoken};
 ghost use Rattle.frame.specs.Effect.{Worked};
 ghost use Rattle.frame.specs.Frame.{done3, counted, checked};
-ghost use Rattle.frame.specs.Private.{Reads, featured_as, rnn_as, spoken_as, quiet, reply_of};
+ghost use Rattle.frame.specs.Private.{IsModel, Reads, featured_as, rnn_as, spoken_as};
+ghost use Rattle.frame.specs.Answer.{reply_told, test_as_reply};
 
-use crate::{Hearing, Reply};
-use features::Sound;
-use model::Reading;
+use crate::{Cause, Hearing, PART, Told};
+use rules::Refusal;
 
-// The reply of the model's test: refusal 7 or 8, or Done.
-fn judge(read: Reading, hearing: Hearing) -> Reply
-    ensures { result ≡ checked (counted hearing) read }
-{
-    match read {
-        Reading::Refused(number, layer) => Reply::Misread(number, layer),
-        Reading::Good(m) => {
-            if m.vad_gru.neurons != hearing.vad {
-                return Reply::Refused(8);
-            }
-            if m.noise_gru.neurons != hearing.noise {
-                return Reply::Refused(8);
-            }
-            if m.denoise_gru.neurons != hearing.denoise {
-                return Reply::Refused(8);
-            }
-            Reply::Done
-        }
-    }
+// What a heard frame is lent besides its share and its spectrum.
+#[derive(Clone, Copy)]
+struct Lent<'a> {
+    // The spectrum of the lagged window, scaled.
+    p: &'a [f32; 961],
+    // The band energies that the share keeps.
+    ex: &'a [f32; 22],
+    // The band energies of p.
+    ep: &'a [f32; 22],
+    // The logarithms of 0.01 + ex.
+    logs: &'a [f32; 22],
 }
 
-pub fn check(model: &[u8], hearing: Hearing) -> Reply
-    ensures { result ≡ checked (counted hearing) (read_of model.now) }
+// The model's test: refused with 7 if it does not read, and with 8 if it has other GRU sizes.
+#[tactic(auto, using(rules::proofs::Tests::tests), unfolding(crate::specs::Frame::checked))]
+pub fn check(model: &[u8], hearing: Hearing) -> Result<(), Cause>
+    ensures { test_as_reply result ≡ checked (counted hearing) (read_of model.now) }
 {
-    judge(model::read(model), hearing)
+    let m = model::read(model)?;
+    if m.vad_gru.neurons != hearing.vad
+        || m.noise_gru.neurons != hearing.noise
+        || m.denoise_gru.neurons != hearing.denoise
+    {
+        return Err(Cause::Plain(Refusal::OtherCounts));
+    }
+    Ok(())
 }
 
 // Computes the features and the correlations, and stores the new cepstrum. x and ex are those that the share
 // keeps.
 fn compute_features(
-    share: &mut [f32],
-    features: &mut [f32],
-    exp: &mut [f32],
+    share: &mut [f32; PART],
+    features: &mut [f32; 42],
+    exp: &mut [f32; 22],
     index: usize,
-    x: &[f32],
-    p: &[f32],
-    ex: &[f32],
-    ep: &[f32],
-    logs: &[f32],
+    x: &[f32; 961],
+    lent: Lent,
 )
-    requires sizes { (length share.old ≡ 3778) × (length features.old ≡ 42) × (length exp.old ≡ 22) × (index ≤ 7) }
-    requires lent_sizes { (length p.now ≡ 961) × (length ep.now ≡ 22) × (length logs.now ≡ 22) }
-    requires as_kept { (x.now ≡ get kept_x share.old) × (ex.now ≡ get kept_ex share.old) }
+    requires inside { index ≤ 7 }
+    requires as_kept { (x.now ≡ get kept_x share.old) × (lent.ex.now ≡ get kept_ex share.old) }
     ensures { featured_as share.new features.new exp.new
-        ≡ featured share.old index p.now ep.now logs.now }
+        ≡ featured share.old index lent.entry.p.now lent.entry.ep.now lent.entry.logs.now }
 {
+    let Lent { p, ex, ep, logs } = lent;
     let lag = share[3191];
     features::compute_features(
         features,
@@ -73,221 +71,144 @@ fn compute_features(
         ep,
         lag,
         logs,
-    );
+    )
+    .unwrap();
 }
 
 // Runs the network on the states in the share. Gives the gains and returns the voice.
-fn compute_rnn(share: &mut [f32], gains: &mut [f32], model: &[u8], features: &[f32]) -> f32
-    requires { (length share.old ≡ 3778) × (length gains.old ≡ 22) × (length features.now ≡ 42) }
+fn compute_rnn(
+    share: &mut [f32; PART],
+    gains: &mut [f32; 22],
+    model: &[u8],
+    features: &[f32; 42],
+) -> f32
+    requires reads { IsModel (read_of model.now) }
     ensures { Reads model.now
         (λ m. rnn_as share.new gains.new result
         ≡ rnn_of share.old features.now model.now m) }
 {
     let mut voice = [0.0f32; 1];
-    network::compute_on(gains, &mut voice, &mut share[3392..3776], model, features);
+    network::compute_on(gains, &mut voice, &mut share[3392..3776], model, features).unwrap();
     voice[0]
 }
 
-fn apply_in(out: &mut [f32], gf: &mut [f32], gains: &[f32])
-    requires { (length out.old ≡ 961) × (length gf.old ≡ 481) × (length gains.now ≡ 22) }
-    ensures { out.new ≡ applied out.old (band_gain gains.now) }
-{
-    bands::interp_band_gain(gf, gains);
-    features::apply_gains(out, gf);
-}
-
-fn apply(out: &mut [f32], gains: &[f32])
-    requires { (length out.old ≡ 961) × (length gains.now ≡ 22) }
+#[tactic(auto, using(rules::proofs::Refusals::left))]
+fn apply(out: &mut [f32; 961], gains: &[f32; 22])
     ensures { out.new ≡ applied out.old (band_gain gains.now) }
 {
     let mut gf = [0.0f32; 481];
-    apply_in(out, &mut gf, gains);
+    bands::interp_band_gain(&mut gf, gains).unwrap();
+    features::apply_gains(out, &gf).unwrap();
 }
 
 // Raises the gains to 0.6 of the last ones, remembers them, and applies them.
-fn apply_gain(share: &mut [f32], out: &mut [f32], gains: &mut [f32])
-    requires { (length share.old ≡ 3778) × (length out.old ≡ 961) × (length gains.old ≡ 22) }
+fn apply_gain(share: &mut [f32; PART], out: &mut [f32; 961], gains: &mut [f32; 22])
     ensures share_after { share.new
         ≡ put lastg share.old (held_gains share.old gains.old) }
     ensures out_after { out.new
         ≡ applied out.old (band_gain (held_gains share.old gains.old)) }
 {
-    features::hold_gains(gains, &mut share[3194..3216]);
+    features::hold_gains(gains, &mut share[3194..3216]).unwrap();
     apply(out, gains);
 }
 
 // The pitch filter, with the network's own gains; then the gains are raised, remembered and applied.
+#[tactic(auto, using(rules::proofs::Refusals::left))]
 fn filter_and_apply_gain(
-    share: &mut [f32],
-    out: &mut [f32],
-    gains: &mut [f32],
-    p: &[f32],
-    exp: &[f32],
-    ex: &[f32],
-    ep: &[f32],
+    share: &mut [f32; PART],
+    out: &mut [f32; 961],
+    gains: &mut [f32; 22],
+    exp: &[f32; 22],
+    lent: Lent,
 )
-    requires sizes { (length share.old ≡ 3778) × (length out.old ≡ 961) × (length gains.old ≡ 22) }
-    requires lent_sizes { (length p.now ≡ 961) × (length exp.now ≡ 22) × (length ex.now ≡ 22) × (length ep.now ≡ 22) }
     ensures share_after { share.new
         ≡ put lastg share.old (held_gains share.old gains.old) }
     ensures out_after { out.new
         ≡ applied
-        (pitch_filtered out.old p.now gains.old exp.now ex.now
-        ep.now)
+        (pitch_filtered out.old lent.entry.p.now gains.old exp.now lent.entry.ex.now
+        lent.entry.ep.now)
         (band_gain (held_gains share.old gains.old)) }
 {
-    features::pitch_filter(out, p, gains, exp, ex, ep);
+    let Lent { p, ex, ep, .. } = lent;
+    features::pitch_filter(out, p, gains, exp, ex, ep).unwrap();
     apply_gain(share, out, gains);
-}
-
-fn process_heard_in(
-    share: &mut [f32],
-    out: &mut [f32],
-    features: &mut [f32],
-    exp: &mut [f32],
-    gains: &mut [f32],
-    index: usize,
-    p: &[f32],
-    ex: &[f32],
-    ep: &[f32],
-    logs: &[f32],
-    model: &[u8],
-) -> f32
-    requires sizes { (length share.old ≡ 3778) × (length features.old ≡ 42) × (length exp.old ≡ 22)
-        × (length gains.old ≡ 22) × (index ≤ 7) }
-    requires lent_sizes { (length p.now ≡ 961) × (length ep.now ≡ 22) × (length logs.now ≡ 22) }
-    requires as_kept { (out.old ≡ get kept_x share.old) × (ex.now ≡ get kept_ex share.old) }
-    ensures { Reads model.now (λ m. spoken_as share.new result out.new
-        ≡ spoken_from share.old index p.now ep.now logs.now
-        model.now m) }
-{
-    compute_features(share, features, exp, index, out, p, ex, ep, logs);
-    let voice = compute_rnn(share, gains, model, features);
-    filter_and_apply_gain(share, out, gains, p, exp, ex, ep);
-    voice
 }
 
 // A heard frame, from p and its energies on. `out` holds x and becomes the spectrum to be transformed back.
 // Returns the voice.
 fn process_heard(
-    share: &mut [f32],
-    out: &mut [f32],
+    share: &mut [f32; PART],
+    out: &mut [f32; 961],
     index: usize,
-    p: &[f32],
-    ex: &[f32],
-    ep: &[f32],
-    logs: &[f32],
+    lent: Lent,
     model: &[u8],
 ) -> f32
-    requires sizes { (length share.old ≡ 3778) × (index ≤ 7) × (length p.now ≡ 961) × (length ep.now ≡ 22)
-        × (length logs.now ≡ 22) }
-    requires as_kept { (out.old ≡ get kept_x share.old) × (ex.now ≡ get kept_ex share.old) }
+    requires inside { index ≤ 7 }
+    requires as_kept { (out.old ≡ get kept_x share.old) × (lent.ex.now ≡ get kept_ex share.old) }
+    requires reads { IsModel (read_of model.now) }
     ensures { Reads model.now (λ m. spoken_as share.new result out.new
-        ≡ spoken_from share.old index p.now ep.now logs.now
+        ≡ spoken_from share.old index lent.entry.p.now lent.entry.ep.now lent.entry.logs.now
         model.now m) }
 {
     let mut features = [0.0f32; 42];
     let mut exp = [0.0f32; 22];
     let mut gains = [0.0f32; 22];
-    process_heard_in(
-        share,
-        out,
-        &mut features,
-        &mut exp,
-        &mut gains,
-        index,
-        p,
-        ex,
-        ep,
-        logs,
-        model,
-    )
-}
-
-fn hear_in(
-    share: &mut [f32],
-    out: &mut [f32],
-    p: &mut [f32],
-    ex: &mut [f32],
-    ep: &mut [f32],
-    index: usize,
-    spectrum: &[f32],
-    logs: &[f32],
-    model: &[u8],
-) -> f32
-    requires sizes { (length share.old ≡ 3778) × (out.old ≡ get kept_x share.old) × (index ≤ 7)
-        × (length spectrum.now ≡ 961) × (length logs.now ≡ 22) }
-    requires lent_sizes { (length p.old ≡ 961) × (length ex.old ≡ 22) × (length ep.old ≡ 22) }
-    ensures { Reads model.now (λ m. spoken_as share.new result out.new
-        ≡ spoken share.old index spectrum.now logs.now model.now m) }
-{
-    rules::copy(ex, &share[3169..3191]);
-    crate::lagged::transform(p, ep, spectrum);
-    process_heard(share, out, index, p, ex, ep, logs, model)
+    compute_features(share, &mut features, &mut exp, index, out, lent);
+    let voice = compute_rnn(share, &mut gains, model, &features);
+    filter_and_apply_gain(share, out, &mut gains, &exp, lent);
+    voice
 }
 
 // A heard frame. `out` holds x and becomes the spectrum to be transformed back. Returns the voice.
 fn hear(
-    share: &mut [f32],
-    out: &mut [f32],
+    share: &mut [f32; PART],
+    out: &mut [f32; 961],
     index: usize,
-    spectrum: &[f32],
-    logs: &[f32],
+    spectrum: &[f32; 961],
+    logs: &[f32; 22],
     model: &[u8],
 ) -> f32
-    requires { (length share.old ≡ 3778) × (out.old ≡ get kept_x share.old) × (index ≤ 7)
-        × (length spectrum.now ≡ 961) × (length logs.now ≡ 22) }
+    requires inside { index ≤ 7 }
+    requires as_kept { out.old ≡ get kept_x share.old }
+    requires reads { IsModel (read_of model.now) }
     ensures { Reads model.now (λ m. spoken_as share.new result out.new
         ≡ spoken share.old index spectrum.now logs.now model.now m) }
 {
     let mut p = [0.0f32; 961];
     let mut ex = [0.0f32; 22];
     let mut ep = [0.0f32; 22];
-    hear_in(
-        share, out, &mut p, &mut ex, &mut ep, index, spectrum, logs, model,
-    )
-}
-
-fn is_quiet(sound: Sound) -> bool
-    ensures { result ≡ quiet sound }
-{
-    match sound {
-        Sound::Silent => true,
-        Sound::Heard(_) => false,
-        Sound::Refused(_) => false,
-    }
-}
-
-fn reply_of(sound: Sound, voice: f32) -> Reply
-    ensures { result ≡ reply_of sound voice }
-{
-    match sound {
-        Sound::Silent => Reply::Silent,
-        Sound::Heard(energy) => Reply::Heard(voice, energy),
-        Sound::Refused(number) => Reply::Refused(number),
-    }
+    rules::copy(&mut ex, &share[3169..3191]).unwrap();
+    crate::lagged::transform(&mut p, &mut ep, spectrum);
+    let lent = Lent {
+        p: &p,
+        ex: &ex,
+        ep: &ep,
+        logs,
+    };
+    process_heard(share, out, index, lent, model)
 }
 
 // Call 3 after its refusals: the frame is silent or heard, and the spectrum is written.
 pub(crate) fn listen(
-    share: &mut [f32],
-    out: &mut [f32],
+    share: &mut [f32; PART],
+    out: &mut [f32; 961],
     index: usize,
-    spectrum: &[f32],
-    logs: &[f32],
+    spectrum: &[f32; 961],
+    logs: &[f32; 22],
     model: &[u8],
-) -> Reply
-    requires { (length share.old ≡ 3778) × (length out.old ≡ 961) × (index ≤ 7)
-        × (length spectrum.now ≡ 961) × (length logs.now ≡ 22) }
+) -> Told
+    requires inside { index ≤ 7 }
+    requires reads { IsModel (read_of model.now) }
     ensures { Reads model.now (λ m. Worked
         (done3 share.old index spectrum.now logs.now model.now m)
-        result share.new (out.old ∷ []) (out.new ∷ [])) }
+        (reply_told result) share.new (out.old ∷ []) (out.new ∷ [])) }
 {
-    let sound = features::listen(&share[3169..3191]);
-    rules::copy(out, &share[2208..3169]);
-    if is_quiet(sound) {
-        return Reply::Silent;
+    rules::copy(out, &share[2208..3169]).unwrap();
+    match features::listen(&share[3169..3191]).unwrap() {
+        None => Told::Silent,
+        Some(energy) => {
+            let voice = hear(share, out, index, spectrum, logs, model);
+            Told::Heard { voice, energy }
+        }
     }
-    let voice = hear(share, out, index, spectrum, logs, model);
-    reply_of(sound, voice)
 }

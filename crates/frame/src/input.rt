@@ -14,9 +14,7 @@ fn shift(mem: &mut [f32])
     requires { length mem.old ≡ 1728 }
     ensures { take 1248 mem.new ≡ tab 1248 (λ i. at mem.old (i + 480)) }
 {
-    for i in 0..1248 {
-        mem[i] = mem[i + 480];
-    }
+    mem.copy_within(480..1728, 0);
 }
 
 // Takes 480 samples into the input memory, filtered, and writes its last 960 numbers, windowed. Returns the
@@ -24,17 +22,19 @@ fn shift(mem: &mut [f32])
 pub(crate) fn take_in(
     mem: &mut [f32],
     memory: Memory,
-    samples: &[f32],
-    window: &mut [f32],
+    samples: &[f32; 480],
+    window: &mut [f32; 960],
 ) -> Memory
-    requires { (length mem.old ≡ 1728) × (length samples.now ≡ 480) × (length window.old ≡ 960) }
+    requires { length mem.old ≡ 1728 }
     ensures value { result ≡ memory_after high_pass memory samples.now }
     ensures mem_after { mem.new ≡ shifted mem.old (outputs high_pass memory samples.now) }
     ensures window_after { window.new
         ≡ windowed (get (recent 0) (shifted mem.old (outputs high_pass memory samples.now))) }
 {
     shift(mem);
-    let done = Biquad::BIQUAD_HP.filter(&mut mem[1248..1728], memory, samples);
-    bands::apply_window(window, &mem[768..1728]);
-    done.memory
+    let next = Biquad::BIQUAD_HP
+        .filter(&mut mem[1248..1728], memory, samples)
+        .unwrap();
+    bands::apply_window(window, &mem[768..1728]).unwrap();
+    next
 }

@@ -7,42 +7,42 @@ ghost use Rattle.frame.specs.Share.{kept_x, kept_ex, kept_lag};
 ghost use Rattle.frame.specs.Heard.{scaled, energies};
 ghost use Rattle.frame.specs.Frame.{plus_hundredth, put_kept};
 
-use crate::Lag;
+use crate::{Lag, PART};
 
 // `out` becomes the spectrum, each number multiplied by `wnorm`.
-fn scale(out: &mut [f32], spectrum: &[f32])
-    requires { (length out.old ≡ 961) × (length spectrum.now ≡ 961) }
+fn scale(out: &mut [f32], spectrum: &[f32; 961])
+    requires { length out.old ≡ 961 }
     ensures { out.new ≡ scaled spectrum.now }
 {
     let norm = bands::wnorm();
-    for i in 0..961 {
-        out[i] = spectrum[i] * norm;
+    for (i, bin) in out.iter_mut().enumerate() {
+        *bin = spectrum[i] * norm;
     }
 }
 
 // p becomes the scaled spectrum, and ep its band energies.
-pub(crate) fn transform(p: &mut [f32], ep: &mut [f32], spectrum: &[f32])
-    requires { (length p.old ≡ 961) × (length ep.old ≡ 22) × (length spectrum.now ≡ 961) }
+#[tactic(auto, using(rules::proofs::Refusals::left), unfolding(crate::specs::Heard::energies))]
+pub(crate) fn transform(p: &mut [f32], ep: &mut [f32; 22], spectrum: &[f32; 961])
+    requires { length p.old ≡ 961 }
     ensures p_after { p.new ≡ scaled spectrum.now }
     ensures ep_after { ep.new ≡ energies spectrum.now }
 {
     scale(p, spectrum);
-    bands::compute_band_corr(ep, p, p);
+    bands::compute_band_corr(ep, p, p).unwrap();
 }
 
 // Adds 0.01 to each energy. The logarithms are taken of these sums.
-fn lift(ex: &mut [f32])
-    requires { length ex.old ≡ 22 }
+fn lift(ex: &mut [f32; 22])
     ensures { ex.new ≡ plus_hundredth ex.old }
 {
-    for i in 0..22 {
-        ex[i] = 0.01 + ex[i];
+    for energy in ex.iter_mut() {
+        *energy = 0.01 + *energy;
     }
 }
 
 // Stores the scaled spectrum in the share, and its band energies in ex.
-fn analyse(share: &mut [f32], spectrum: &[f32], ex: &mut [f32])
-    requires { (length share.old ≡ 3778) × (length spectrum.now ≡ 961) × (length ex.old ≡ 22) }
+#[tactic(auto, unfolding(rules::specs::Place::put))]
+fn analyse(share: &mut [f32; PART], spectrum: &[f32; 961], ex: &mut [f32; 22])
     ensures share_after { share.new ≡ put kept_x share.old (scaled spectrum.now) }
     ensures ex_after { ex.new ≡ energies spectrum.now }
 {
@@ -50,19 +50,19 @@ fn analyse(share: &mut [f32], spectrum: &[f32], ex: &mut [f32])
 }
 
 // Stores the band energies and the lag in the share.
-fn keep(share: &mut [f32], ex: &[f32], lag: Lag)
-    requires { (length share.old ≡ 3778) × (length ex.now ≡ 22) × (lag.0 ≤ 768) }
+fn keep(share: &mut [f32; PART], ex: &[f32; 22], lag: Lag)
+    requires { lag.0 ≤ 768 }
     ensures { share.new
         ≡ put kept_lag (put kept_ex share.old ex.now) (of_int binary32 (pos lag.0) ∷ []) }
 {
-    rules::copy(&mut share[3169..3191], ex);
+    rules::copy(&mut share[3169..3191], ex).unwrap();
     share[3191] = lag.0 as f32;
 }
 
 // What call 2 does after its window is written.
-pub(crate) fn note(share: &mut [f32], spectrum: &[f32], lag: Lag, sums: &mut [f32])
-    requires { (length share.old ≡ 3778) × (length spectrum.now ≡ 961) × (length sums.old ≡ 22)
-        × (lag.0 ≤ 768) }
+#[tactic(auto, unfolding(crate::specs::Frame::put_kept))]
+pub(crate) fn note(share: &mut [f32; PART], spectrum: &[f32; 961], lag: Lag, sums: &mut [f32; 22])
+    requires { lag.0 ≤ 768 }
     ensures share_after { share.new ≡ put_kept share.old spectrum.now lag.0 }
     ensures sums_after { sums.new ≡ plus_hundredth (energies spectrum.now) }
 {

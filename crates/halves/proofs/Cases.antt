@@ -8,15 +8,13 @@ use Rattle.rules.specs.Place.{get}
 use Rattle.frame.specs.Written.{first_in}
 use Rattle.model.specs.Model.{read_of}
 use Rattle.model.specs.declared.Model.{Model}
-use Rattle.model.specs.declared.Reading.TheVariants.{Good, Refused as Unread}
+use Rattle.model.specs.Reading.{Good, Refused as Unread}
 use Rattle.frame.specs.declared.Hearing.{Hearing}
-use Rattle.frame.specs.declared.Reply.{Reply}
-use Rattle.frame.specs.declared.Reply.TheVariants.{Silent, Heard, Refused, Misread}
+use Rattle.frame.specs.Reply.{Reply, Silent, Heard, Refused, Misread, ◌refusedIf◌}
 use Rattle.frame.specs.declared.Way.{Way}
 use Rattle.frame.specs.Share.{PART, kept_x}
 use Rattle.frame.specs.Heard.{spoken}
 use Rattle.frame.specs.Effect.{Effect, refusal}
-use Rattle.frame.specs.Reply.{◌refusedIf◌}
 use Rattle.frame.specs.Frame.{done1, call1, done2, call3, done4}
 use Rattle.frame.proofs.Beside.{done1_beside, done3_beside}
 use Rattle.frame.proofs.Cases.{by_its_number, by_table, call1_by, call3_by}

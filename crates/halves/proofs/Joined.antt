@@ -9,11 +9,10 @@ use Rattle.frame.specs.Written.{first_in}
 use Rattle.rules.proofs.Refusals.{Right, right}
 use Rattle.transforms.specs.Transform.{forward_of, inverse_of}
 use Rattle.frame.specs.declared.Hearing.{Hearing}
-use Rattle.frame.specs.declared.Reply.{Reply}
+use Rattle.frame.specs.Reply.{Reply, passed, ◌refusedIf◌}
 use Rattle.frame.specs.declared.Way.{Way}
 use Rattle.frame.specs.declared.Way.TheVariants.{Own}
 use Rattle.frame.specs.Effect.{Effect}
-use Rattle.frame.specs.Reply.{passed, ◌refusedIf◌}
 use Rattle.frame.specs.Share.{PART}
 use Rattle.frame.specs.Frame.{call1, call2, call3, call4}
 use Rattle.frame.proofs.Done.{call4_done}

@@ -7,8 +7,7 @@ use native.Mathlib.Omega.{arith}
 use mathlib.Core.Logic.{inl}
 use Rattle.rules.specs.Place.{Place, get}
 use Rattle.frame.specs.declared.Hearing.{Hearing}
-use Rattle.frame.specs.declared.Reply.{Reply}
-use Rattle.frame.specs.declared.Reply.TheVariants.{Silent, Heard, Refused, Misread}
+use Rattle.frame.specs.Reply.{Reply, Silent, Heard, Refused, Misread}
 use Rattle.frame.specs.declared.Way.{Way}
 use Rattle.frame.specs.Share.{PART, input_mem, synthesis_mem, kept_x, kept_ex, kept_lag, mem_hp_x, finder_mem}
 use Rattle.frame.specs.Heard.{spoken}

@@ -18,9 +18,8 @@ use Rattle.bands.proofs.Results.{length_corr}
 use Rattle.lag.specs.Lag.{own_lag}
 use Rattle.finder.specs.Kept.{whole_lag}
 use Rattle.finder.proofs.Lags.{lag_small, lag_back}
-use Rattle.frame.specs.declared.Reply.{Reply}
+use Rattle.frame.specs.Reply.{Reply, ◌refusedIf◌}
 use Rattle.frame.specs.Effect.{Effect}
-use Rattle.frame.specs.Reply.{◌refusedIf◌}
 use Rattle.frame.specs.Share.{PART, input_mem, kept_x, kept_ex, kept_lag}
 use Rattle.frame.specs.Heard.{scaled, energies}
 use Rattle.frame.specs.Frame.{recent, put_kept, done2, call2}

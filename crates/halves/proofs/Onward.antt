@@ -4,12 +4,10 @@ use Rattle.rules.proofs.Common.{ℕ, true, false, true≢false, false≢true, Li
 use Rattle.rules.proofs.Common.{length, get_or, drop, Float}
 use borrow.Author.Tests.{eq-eqb, le-ltb}
 use Rattle.frame.specs.declared.Hearing.{Hearing}
-use Rattle.frame.specs.declared.Reply.{Reply}
-use Rattle.frame.specs.declared.Reply.TheVariants.{Refused, Misread}
+use Rattle.frame.specs.Reply.{Reply, Refused, Misread, passed}
 use Rattle.frame.specs.declared.Way.{Way}
 use Rattle.frame.specs.Written.{Written, first_in, onto}
 use Rattle.frame.specs.Effect.{Effect, Worked, refusal}
-use Rattle.frame.specs.Reply.{passed}
 use Rattle.frame.specs.Share.{PART}
 use Rattle.frame.specs.Frame.{call1, call2, call3, call4}
 use Rattle.frame.proofs.Cases.{call1_by, call3_by}

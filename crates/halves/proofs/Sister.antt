@@ -1,22 +1,21 @@
 -- The sister of call 2 is call 2 with the lag that is found: what holds of call 2 with any lag holds of it.
 -- Assumes nothing.
-use Rattle.std.specs.Prelude.{◌∷◌, ◌≡◌}
-use Rattle.rules.proofs.Common.{ℕ, List, [], ap, ◌∙◌, length, Float}
+use Rattle.std.specs.Prelude.{◌∷◌, ◌≡◌, Result, Ok, Err}
+use Rattle.rules.proofs.Common.{ℕ, List, [], length, Float}
 use native.Mathlib.Omega.{arith}
 use borrow.Author.Tests.{le-ltb}
+use Rattle.rules.specs.declared.refusal.Refusal.{Refusal}
+use Rattle.rules.specs.declared.refusal.Refusal.TheVariants.{WrongLength}
 use Rattle.rules.specs.Leaf.{Leaf}
 use Rattle.rules.specs.Place.{get}
 use Rattle.rules.proofs.Refusals.{fitting}
 use Rattle.rules.proofs.Places.{length_get}
-use Rattle.lag.specs.Lag.{own_lag, lag_in}
-use Rattle.lag.specs.declared.OwnLag.{OwnLag}
+use Rattle.lag.specs.Lag.{own_lag}
 use Rattle.lag.proofs.Ranges.{in_range_lem}
 use Rattle.frame.specs.Share.{PART, input_mem}
 use Rattle.frame.specs.Effect.{Effect, Worked, refusal, unless}
-use Rattle.frame.specs.Reply.{◌refusedIf◌}
+use Rattle.frame.specs.Reply.{◌refusedIf◌, Reply, Refused}
 use Rattle.frame.specs.Frame.{wrong, done2, call2}
-use Rattle.frame.specs.declared.Reply.{Reply}
-use Rattle.frame.specs.declared.Reply.TheVariants.{Refused}
 use Rattle.frame.proofs.Cases.{call2_by}
 use Rattle.frame.proofs.Keeps.{Keeps, call2_keeps}
 use Rattle.halves.specs.Laws.{SisterByFive}
@@ -27,10 +26,10 @@ module _ (share : List Float) where
   mem = get input_mem share
 
   -- the lag that the code finds, and what it does with it
-  pub found : {answer : OwnLag} {lag : ℕ} → length share ≡ PART
-      → Leaf (length mem ≡ 1728) answer (OwnLag.Lag (own_lag mem)) (OwnLag.Refused 5) → lag ≡ lag_in answer
+  pub found : {answer : Result ℕ Refusal} {lag : ℕ} → length share ≡ PART
+      → Leaf (length mem ≡ 1728) answer (Ok (own_lag mem)) (Err WrongLength) → answer ≡ Ok lag
       → lag ≡ own_lag mem
-  found whole leaf e = e ∙ ap lag_in (fitting leaf (length_get input_mem share (omega arith)))
+  found whole leaf e = let f = fitting leaf (length_get input_mem share (omega arith)) in cc
 
   pub call2_own_by : (P : Effect Reply → Type 0) → ((n : ℕ) → P (refusal (Refused n) share))
       → (spectrum : List Float) (window sums : ℕ)

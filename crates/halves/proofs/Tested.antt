@@ -1,6 +1,6 @@
 -- A half tests all refusals of its two calls before it does anything; and what it gives if none of them holds.
---     first_done, three-passes        the first half, and call 3 of the second, where nothing is refused
---     first-tests, second-tests       what is claimed
+--     first_done, three_passes        the first half, and call 3 of the second, where nothing is refused
+--     first_tests, second_tests       what is claimed
 -- Assumes nothing.
 use Rattle.std.specs.Prelude.{◌≤◌, ◌∷◌, ◌≡◌}
 use Rattle.rules.proofs.Common.{ℕ, Bool, true, false, cond, not, true≢false, false≢true, List, [], refl}
@@ -12,15 +12,12 @@ use Rattle.rules.proofs.Refusals.{Right, right}
 use Rattle.samples.specs.Samples.{good}
 use Rattle.model.specs.Model.{read_of}
 use Rattle.model.specs.declared.Model.{Model}
-use Rattle.model.specs.declared.Reading.{Reading}
-use Rattle.model.specs.declared.Reading.TheVariants.{Good, Refused as Unread}
+use Rattle.model.specs.Reading.{Reading, Good, Refused as Unread}
 use Rattle.features.specs.Silence.{energy, is_silent}
 use Rattle.frame.specs.declared.Hearing.{Hearing}
-use Rattle.frame.specs.declared.Reply.{Reply}
-use Rattle.frame.specs.declared.Reply.TheVariants.{Done, Refused}
+use Rattle.frame.specs.Reply.{Reply, Done, Refused, passed, ◌refusedIf◌}
 use Rattle.frame.specs.declared.Way.{Way}
 use Rattle.frame.specs.Written.{first_in}
-use Rattle.frame.specs.Reply.{passed, ◌refusedIf◌}
 use Rattle.frame.specs.Share.{PART, kept_ex}
 use Rattle.frame.specs.Heard.{Spoken, spoken}
 use Rattle.frame.specs.Effect.{Effect, refusal}

@@ -11,9 +11,8 @@ use Rattle.bands.specs.Windowed.{windowed}
 use Rattle.finder.specs.Kept.{whole_lag}
 use Rattle.frame.specs.Share.{PART, input_mem, kept_lag}
 use Rattle.frame.specs.Effect.{Effect, unless}
-use Rattle.frame.specs.Reply.{passed, ◌refusedIf◌}
+use Rattle.frame.specs.Reply.{passed, ◌refusedIf◌, Reply}
 use Rattle.frame.specs.declared.Hearing.{Hearing}
-use Rattle.frame.specs.declared.Reply.{Reply}
 use Rattle.frame.specs.declared.Way.{Way}
 use Rattle.frame.specs.Frame.{recent, call1, call2, call3, call4}
 pub use Rattle.halves.specs.Own.{call2_own}

@@ -10,11 +10,10 @@ use Rattle.model.specs.Model.{read_of}
 use Rattle.lag.specs.Lag.{own_lag}
 use Rattle.transforms.specs.Transform.{forward_of, inverse_of}
 use Rattle.frame.specs.declared.Hearing.{Hearing}
-use Rattle.frame.specs.declared.Reply.{Reply}
+use Rattle.frame.specs.Reply.{Reply, passed, ◌refusedIf◌, first_refusal}
 use Rattle.frame.specs.declared.Way.{Way}
 use Rattle.frame.specs.declared.Way.TheVariants.{Own}
 use Rattle.frame.specs.Effect.{Effect, refusal, unless}
-use Rattle.frame.specs.Reply.{passed, ◌refusedIf◌, first_refusal}
 use Rattle.frame.specs.Share.{PART, input_mem}
 use Rattle.frame.specs.Frame.{call1, done2, call2, counted, checked, call3, call4}
 use Rattle.halves.specs.Own.{call2_own}

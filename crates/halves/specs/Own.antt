@@ -3,7 +3,7 @@ use Rattle.rules.specs.Common.{ℕ, List, Float}
 use Rattle.rules.specs.Place.{get}
 use Rattle.lag.specs.Lag.{own_lag}
 use Rattle.frame.specs.Share.{input_mem}
-use Rattle.frame.specs.declared.Reply.{Reply}
+use Rattle.frame.specs.Reply.{Reply}
 use Rattle.frame.specs.Effect.{Effect}
 use Rattle.frame.specs.Frame.{call2}
 

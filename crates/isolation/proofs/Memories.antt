@@ -8,9 +8,7 @@ use borrow.Author.Tests.{eqb-true}
 use lib.ListN.{get_or-replicate}
 use lib.Ieee.{is_nan, of_bits}
 use Rattle.rules.specs.F32.{at, f32}
-use Rattle.frame.specs.Reply.{is_heard}
-use Rattle.frame.specs.declared.Reply.{Reply}
-use Rattle.frame.specs.declared.Reply.TheVariants.{Done, Silent, Heard, Numbered, Refused, Misread}
+use Rattle.frame.specs.Reply.{is_heard, Reply, Done, Silent, Heard, Numbered, Refused, Misread}
 use Rattle.desk.specs.Desk.{Ask}
 use Rattle.memory.specs.Hear.{Recalled, blank, HeardFrame, heard_all, faded}
 use Rattle.memory.specs.Calls.{FrameCall}

@@ -13,7 +13,7 @@ use Rattle.rules.proofs.Places.{length_get}
 use Rattle.frame.specs.Effect.{Effect}
 use Rattle.frame.specs.Reply.{passed}
 use Rattle.frame.specs.Share.{SHARE}
-use Rattle.desk.specs.declared.Answer.{Answer}
+use Rattle.desk.specs.Answer.{Answer}
 use Rattle.desk.specs.Gate.{share_of}
 use Rattle.desk.specs.Desk.{Ask, call_of, desk}
 use Rattle.desk.proofs.Apart.{its_own, own_share, other_share, same_length}

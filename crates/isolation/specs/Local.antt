@@ -5,8 +5,8 @@ use Rattle.rules.specs.Common.{ℕ, cond, List, eqb, length, Float}
 use Rattle.rules.specs.Place.{get}
 use Rattle.frame.specs.Effect.{Effect, refusal}
 use Rattle.frame.specs.Share.{SHARE}
-use Rattle.frame.specs.declared.Reply.TheVariants.{Refused}
-use Rattle.desk.specs.declared.Answer.{Answer}
+use Rattle.frame.specs.Reply.{Refused}
+use Rattle.desk.specs.Answer.{Answer}
 use Rattle.desk.specs.declared.Record.{Record}
 use Rattle.desk.specs.Gate.{side_of, gate, share_of}
 use Rattle.desk.specs.Laws.{placed, AnsweredAlike}

@@ -9,7 +9,7 @@ use Rattle.std.specs.Prelude.{◌*◌, ◌<◌, ◌∷◌, ◌≡◌}
 use Rattle.rules.specs.Common.{ℕ, true, false, List, [], length, Float, le, is_nan}
 use Rattle.rules.specs.F32.{◌⊗◌, at, f32}
 use Rattle.rules.specs.Place.{get}
-use Rattle.frame.specs.declared.Reply.TheVariants.{Heard}
+use Rattle.frame.specs.Reply.{Heard}
 use Rattle.frame.specs.Share.{SHARE}
 use Rattle.desk.specs.Gate.{share_of}
 use Rattle.desk.specs.Desk.{Ask, call_of}

@@ -4,9 +4,8 @@
 use Rattle.std.specs.Prelude.{◌+◌, ◌*◌, ◌%◌, ◌<◌, ◌∷◌, ◌++◌, ◌≡◌}
 use Rattle.rules.specs.Common.{ℕ, true, false, cond, List, [], eqb, length}
 use Rattle.rules.specs.Place.{get}
-use Rattle.frame.specs.Reply.{passed}
+use Rattle.frame.specs.Reply.{passed, Reply}
 use Rattle.frame.specs.Share.{SHARE}
-use Rattle.frame.specs.declared.Reply.{Reply}
 use Rattle.frame.specs.declared.Way.{Way}
 use Rattle.desk.specs.Gate.{share_of}
 use Rattle.desk.specs.Desk.{Ask, opening, call_of, desk}

@@ -4,7 +4,7 @@ use Rattle.std.specs.Prelude.{◌&&◌, ◌∷◌, ◌++◌, ◌≡◌}
 use Rattle.rules.specs.Common.{ℕ, cond, List, [], map, eqb, Float}
 use Rattle.frame.specs.Effect.{Effect}
 use Rattle.frame.specs.Written.{Written}
-use Rattle.desk.specs.declared.Answer.{Answer}
+use Rattle.desk.specs.Answer.{Answer}
 use Rattle.desk.specs.declared.Record.{Record}
 use Rattle.desk.specs.Desk.{Ask}
 use Rattle.desk.specs.Surface.{record_in, reply_number, handed_back, hosted}

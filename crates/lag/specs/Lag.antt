@@ -1,12 +1,11 @@
 -- The lag that a bench finds by itself (request 04), over the definitions of `pitch` and `pitch_search`. The rule is
 -- our own: it is simpler than `PitchFinder::process` of nnnoiseless, which is in the crate `finder`.
-use Rattle.std.specs.Prelude.{◌-◌, ◌*◌}
+use Rattle.std.specs.Prelude.{◌-◌, ◌*◌, Result, Ok, Err}
 use Rattle.rules.specs.Common.{ℕ, List, Float}
 use Rattle.rules.specs.F32.{part}
 use Rattle.pitch.specs.Xcorr.{pitch_xcorr}
 use Rattle.pitch_search.specs.Best.{best_of, first_of}
 use Rattle.pitch.specs.Downsample.{downsampled}
-use Rattle.lag.specs.declared.OwnLag.{OwnLag}
 
 -- How well the newest 480 of the 864 half-rate numbers agree with older ones: one correlation for each of 294 offsets.
 unfoldable pub correlations : List Float → List Float
@@ -19,13 +18,3 @@ first_pitch low = first_of (best_of (correlations low) low 480)
 -- The lag in samples at the full rate. An offset is counted from the oldest number, and each offset is two samples.
 unfoldable pub own_lag : List Float → ℕ
 own_lag mem = 768 - 2 * first_pitch (downsampled mem)
-
--- The number that a call returns: 0, or the number of the refusal.
-abbrev pub own_number : OwnLag → ℕ
-own_number (OwnLag.Lag l) = 0
-own_number (OwnLag.Refused n) = n
-
--- The lag in an answer, or 0 if it was refused.
-abbrev pub lag_in : OwnLag → ℕ
-lag_in (OwnLag.Lag l) = l
-lag_in (OwnLag.Refused n) = 0

@@ -4,52 +4,31 @@
 use std::io;
 use std::io::Read;
 
-// Prints a text.
-fn text(rt: &impl Print, t: &str) -> io::Result<()> {
-    rt.print(t)
-}
-
-// Prints a number.
-fn number(rt: &impl Print, n: usize) -> io::Result<()> {
-    rt.print(n)
-}
-
 // Prints the line of a layer: layer, inputs, neurons, activation, offset, length.
+// Stays: a number for the layer, as `model::line` takes it, whose parameters may not change.
 fn line(rt: &impl Print, bytes: &[u8], layer: usize) -> io::Result<()> {
     let row = model::line(bytes, layer);
-    number(rt, row[0])?;
-    for i in 1..6 {
-        text(rt, " ")?;
-        number(rt, row[i])?;
-    }
-    text(rt, "\n")
+    println!(rt;
+        "{} {} {} {} {} {}",
+        row[0], row[1], row[2], row[3], row[4], row[5]
+    )
 }
 
 // Prints the size of a model and its six layers.
+// Stays: the loop counts the layers. Each one's number is asked for and printed, so no form is plainer.
 fn good(rt: &impl Print, bytes: &[u8]) -> io::Result<()> {
-    text(rt, "model ")?;
-    number(rt, bytes.len())?;
-    text(rt, "\n")?;
+    println!(rt; "model {}", bytes.len())?;
     for layer in 0..6 {
         line(rt, bytes, layer)?;
     }
-    text(rt, "end\n")
-}
-
-// Prints a refusal and its layer.
-fn refused(rt: &impl Print, refusal: usize, layer: usize) -> io::Result<()> {
-    text(rt, "refused ")?;
-    number(rt, refusal)?;
-    text(rt, " ")?;
-    number(rt, layer)?;
-    text(rt, "\n")
+    println!(rt; "end")
 }
 
 // Lists the model in these bytes.
 pub fn list(rt: &impl Print, bytes: &[u8]) -> io::Result<()> {
     match model::read(bytes) {
-        model::Reading::Good(_) => good(rt, bytes),
-        model::Reading::Refused(refusal, layer) => refused(rt, refusal as usize, layer as usize),
+        Ok(_) => good(rt, bytes),
+        Err(misread) => println!(rt; "refused {} {}", misread.refusal.number(), misread.layer),
     }
 }
 
@@ -58,7 +37,7 @@ pub fn list_input(rt: &(impl Input + Print + AllocGlobal)) -> io::Result<()> {
     let mut bytes = Vec::new(rt.alloc());
     rt.reader().take(65537).read_to_end(&mut bytes)?;
     if 65536 < bytes.len() {
-        return text(rt, "too long\n");
+        return println!(rt; "too long");
     }
     list(rt, &bytes[..])
 }

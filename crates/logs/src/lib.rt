@@ -5,12 +5,15 @@
 // which rounding twice would show.
 #![tactic(auto)]
 
-ghost use Rattle.std.specs.Prelude.{◌≡◌, length};
+ghost use Rattle.std.specs.Prelude.{◌≡◌, Ok, Err, length};
 ghost use Rattle.rules.specs.Leaf.{Leaf, ◌leaving◌};
 ghost use Rattle.rules.specs.F64.{◌-₆₄◌};
+ghost use Rattle.rules.specs.declared.refusal.Refusal.TheVariants.{WrongLength};
 ghost use Rattle.logs.specs.Log10.{series, lost_of, nudged, summed, log_of_bits, log10_of, logs_of, LogsFits};
 
 pub mod table;
+
+use rules::Refusal;
 
 // In the bits of an f64: 1 in the field of the exponent.
 const LEAD: u64 = 0x10_0000_0000_0000;
@@ -19,6 +22,7 @@ const LEAD: u64 = 0x10_0000_0000_0000;
 const ONE: u64 = 0x3ff0_0000_0000_0000;
 
 // The series of log10(1 + r), from r^2 on.
+#[tactic(auto, unfolding(crate::specs::Log10::series))]
 fn series_of(r: f64) -> f64
     ensures { result ≡ series r }
 {
@@ -27,6 +31,7 @@ fn series_of(r: f64) -> f64
 }
 
 // What rounding lost in s = hi + p.
+#[tactic(auto, unfolding(crate::specs::Log10::lost_of))]
 fn lost_of(hi: f64, p: f64, s: f64) -> f64
     ensures { result ≡ lost_of hi p s }
 {
@@ -57,6 +62,7 @@ fn nudge(t: f64, s: f64, w: f64) -> f64
 }
 
 // hi + lo + log10(1 + r).
+#[tactic(auto, unfolding(crate::specs::Log10::summed))]
 fn sum_of(hi: f64, lo: f64, r: f64) -> f64
     ensures { result ≡ summed hi lo r }
 {
@@ -92,21 +98,18 @@ pub fn log10(x: f32) -> f32
     if x == 0.0 { -1.0 / 0.0 } else { 0.0 / 0.0 }
 }
 
-// The logarithms of the 22 sums. Refuses another length of either with 5.
-pub fn logs(out: &mut [f32], sums: &[f32]) -> u32
+// The logarithms of the 22 sums. Another length of either is refused.
+pub fn logs(out: &mut [f32], sums: &[f32]) -> Result<(), Refusal>
     ensures { Leaf (LogsFits (length out.old) (length sums.now))
         (result leaving out.new)
-        (0 leaving logs_of sums.now)
-        (5 leaving out.old) }
+        (Ok tt leaving logs_of sums.now)
+        (Err WrongLength leaving out.old) }
 {
-    if out.len() != 22 {
-        return 5;
+    if out.len() != 22 || sums.len() != 22 {
+        return Err(Refusal::WrongLength);
     }
-    if sums.len() != 22 {
-        return 5;
+    for (i, log) in out.iter_mut().enumerate() {
+        *log = log10(sums[i]);
     }
-    for i in 0..22 {
-        out[i] = log10(sums[i]);
-    }
-    0
+    Ok(())
 }

@@ -140,6 +140,25 @@ block_ordered kept out now a even room e s₁ s₂ s₃ s₄ =
     (from (a + 4 + 4 + 4 + 1) (a + 3 + 4) (omega arith)) (from (a + 4 + 4 + 4 + 2) (a + 3 + 8) (omega arith))
     (from (a + 4 + 4 + 4 + 3) (a + 3 + 12) (omega arith))
 
+-- the same, with the places as the loop counts them
+pub more_ordered : (kept out now : List Float) (a : ℕ) {m₁ m₂ m₃ m₄ : List Float} → a % 16 ≡ 0 → a + 16 ≤ length out
+    → now ≡ tab a (λ j. at kept (spot j)) ++ drop a out
+    → m₁ ≡ store_four now a (at kept a) (at kept (a + 4)) (at kept (a + 8)) (at kept (a + 12))
+    → m₂ ≡ store_four m₁ (a + 4) (at kept (a + 1)) (at kept (a + 1 + 4)) (at kept (a + 1 + 8)) (at kept (a + 1 + 12))
+    → m₃ ≡ store_four m₂ (a + 8) (at kept (a + 2)) (at kept (a + 2 + 4)) (at kept (a + 2 + 8)) (at kept (a + 2 + 12))
+    → m₄ ≡ store_four m₃ (a + 12) (at kept (a + 3)) (at kept (a + 3 + 4)) (at kept (a + 3 + 8)) (at kept (a + 3 + 12))
+    → m₄ ≡ tab (a + 16) (λ j. at kept (spot j)) ++ drop (a + 16) out
+more_ordered kept out now a {m₁} {m₂} {m₃} {m₄} even room e s₁ s₂ s₃ s₄ =
+    let third : a + 8 ≡ a + 4 + 4 = omega arith in
+    let fourth : a + 12 ≡ a + 4 + 4 + 4 = omega arith in
+    let next : a + 4 + 4 + 4 + 4 ≡ a + 16 = omega arith in
+    block_ordered kept out now a even room e s₁ s₂
+    (s₃ ∙ ap (λ (k : ℕ). store_four m₂ k (at kept (a + 2)) (at kept (a + 2 + 4)) (at kept (a + 2 + 8))
+    (at kept (a + 2 + 12))) third)
+    (s₄ ∙ ap (λ (k : ℕ). store_four m₃ k (at kept (a + 3)) (at kept (a + 3 + 4)) (at kept (a + 3 + 8))
+    (at kept (a + 3 + 12))) fourth)
+    ∙ ap (λ (k : ℕ). tab k (λ j. at kept (spot j)) ++ drop k out) next
+
 -- and sixteen kept as they were computed
 module _ (weights : List ℕ) (stride offset : ℕ) (input out : List Float) (a : ℕ) (even : a % 16 ≡ 0) where
   abbrev spotted : ℕ → Float
@@ -210,6 +229,24 @@ module _ (weights : List ℕ) (stride offset : ℕ) (input out : List Float) (a 
       (ap (λ (t : Sixteen). t.s.d) same
       ∙ lane weights stride offset input out a (λ t. t.s.d) (λ r. r + 12 + 3) 15 (a + 4 + 4 + 4 + 3)
       (λ r. omega arith) (λ r x t. refl) refl (omega arith))
+
+  -- the same, with the places as the loop counts them
+  pub block_more : (kept now : List Float) {s : Sixteen} {m₁ m₂ m₃ m₄ : List Float} → a + 16 ≤ length kept
+      → now ≡ tab a spotted ++ drop a kept
+      → s ≡ b
+      → m₁ ≡ store_four now a s.p.a s.q.a s.r.a s.s.a
+      → m₂ ≡ store_four m₁ (a + 4) s.p.b s.q.b s.r.b s.s.b
+      → m₃ ≡ store_four m₂ (a + 8) s.p.c s.q.c s.r.c s.s.c
+      → m₄ ≡ store_four m₃ (a + 12) s.p.d s.q.d s.r.d s.s.d
+      → m₄ ≡ tab (a + 16) spotted ++ drop (a + 16) kept
+  block_more kept now {s} {m₁} {m₂} {m₃} {m₄} room e same s₁ s₂ s₃ s₄ =
+      let third : a + 8 ≡ a + 4 + 4 = omega arith in
+      let fourth : a + 12 ≡ a + 4 + 4 + 4 = omega arith in
+      let next : a + 4 + 4 + 4 + 4 ≡ a + 16 = omega arith in
+      block_kept kept now room e same s₁ s₂
+      (s₃ ∙ ap (λ (k : ℕ). store_four m₂ k s.p.c s.q.c s.r.c s.s.c) third)
+      (s₄ ∙ ap (λ (k : ℕ). store_four m₃ k s.p.d s.q.d s.r.d s.s.d) fourth)
+      ∙ ap (λ (k : ℕ). tab k spotted ++ drop k kept) next
 
 -- a spot's spot is the place itself
 spot_below : (i n : ℕ) → n % 16 ≡ 0 → i < n → spot i < n

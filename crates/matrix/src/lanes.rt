@@ -11,6 +11,7 @@ ghost use Rattle.matrix.specs.Private.{neuron, spot, store_four, Rows, Blocks};
 use crate::sums::weight;
 
 // Four neighbouring sums.
+// Stays: four names rather than an array are no less plain, as each sum takes a different byte of a word.
 #[derive(Drop)]
 struct Four {
     a: f32,
@@ -20,6 +21,7 @@ struct Four {
 }
 
 // Four times four neighbouring sums.
+// Stays: four names, as in `Four`. In an array each would be named by its place, which is no plainer.
 #[derive(Drop)]
 struct Sixteen {
     p: Four,
@@ -58,6 +60,8 @@ fn byte0(v: u32) -> f32
 }
 
 // The second byte.
+// Stays: a byte of `to_le_bytes` is no plainer in byte1 to byte3. byte1 wants the byte where it stands in the word,
+// and the contracts of byte2 and byte3 name the byte by the same division.
 fn byte1(v: u32) -> f32
     ensures { result ≡ of_byte (v / 256 % 256) }
 {
@@ -112,9 +116,9 @@ fn sums(s: Sixteen, weights: &[u8], stride: usize, place: usize, input: &[f32]) 
         (length input.now) s }
 {
     let mut r = s;
-    for i in 0..input.len() {
+    for (i, x) in input.iter().enumerate() {
         let row = i * stride + place;
-        r = step(r, weights, row, input[i]);
+        r = step(r, weights, row, *x);
     }
     r
 }
@@ -146,6 +150,7 @@ fn take_sixteen(out: &[f32], place: usize) -> Sixteen
 }
 
 // Stores four neighbouring numbers.
+// Stays: four stores in a row, as `store_four` has them. An array made to be copied is no plainer.
 fn give(to: &mut [f32], place: usize, a: f32, b: f32, c: f32, d: f32)
     requires { place + 4 ≤ length to.old }
     ensures { to.new ≡ store_four to.old place a b c d }
@@ -158,6 +163,8 @@ fn give(to: &mut [f32], place: usize, a: f32, b: f32, c: f32, d: f32)
 
 // All blocks of sixteen sums. They are stored in the order of the bytes: first those of the lowest byte of each word,
 // then those of the next.
+// Stays: the loops of blocks and ordered go from sixteen to sixteen by a place. It is the place in two slices, and in
+// blocks part of the offset, so with chunks of one slice it would still be needed, which is no plainer.
 fn blocks(
     kept: &mut [f32],
     out: &[f32],
@@ -173,19 +180,12 @@ fn blocks(
         (λ i. neuron out.now weights.now stride offset input.now
         (spot i)) }
 {
-    let mut a = 0usize;
-    while a < out.len() {
-        let b = a + 4;
-        let c = b + 4;
-        let d = c + 4;
-        let next = d + 4;
-        let place = offset + a;
-        let s = sums(take_sixteen(out, a), weights, stride, place, input);
+    for a in (0..out.len()).step_by(16) {
+        let s = sums(take_sixteen(out, a), weights, stride, offset + a, input);
         give(kept, a, s.p.a, s.q.a, s.r.a, s.s.a);
-        give(kept, b, s.p.b, s.q.b, s.r.b, s.s.b);
-        give(kept, c, s.p.c, s.q.c, s.r.c, s.s.c);
-        give(kept, d, s.p.d, s.q.d, s.r.d, s.s.d);
-        a = next;
+        give(kept, a + 4, s.p.b, s.q.b, s.r.b, s.s.b);
+        give(kept, a + 8, s.p.c, s.q.c, s.r.c, s.s.c);
+        give(kept, a + 12, s.p.d, s.q.d, s.r.d, s.s.d);
     }
 }
 
@@ -211,16 +211,11 @@ fn ordered(out: &mut [f32], kept: &[f32])
     requires { (length kept.now ≡ length out.old) × (length out.old % 16 ≡ 0) }
     ensures { out.new ≡ tab (length out.old) (λ j. at kept.now (spot j)) }
 {
-    let mut a = 0usize;
-    while a < kept.len() {
-        let b = a + 4;
-        let c = b + 4;
-        let d = c + 4;
+    for a in (0..kept.len()).step_by(16) {
         back(out, a, kept, a);
-        back(out, b, kept, a + 1);
-        back(out, c, kept, a + 2);
-        back(out, d, kept, a + 3);
-        a = d + 4;
+        back(out, a + 4, kept, a + 1);
+        back(out, a + 8, kept, a + 2);
+        back(out, a + 12, kept, a + 3);
     }
 }
 

@@ -8,6 +8,8 @@ ghost use Rattle.matrix.specs.Sums.{MulAdd};
 mod lanes;
 pub mod sums;
 
+use rules::Refusal;
+
 // Some rows of a matrix that is stored column by column.
 #[derive(Drop)]
 pub struct SubMatrix<'a> {
@@ -31,9 +33,9 @@ pub fn matrix<'a>(weights: &'a [u8], stride: usize, offset: usize) -> SubMatrix<
 }
 
 impl<'a> SubMatrix<'a> {
-    // output[j] += data[i * stride + offset + j] * input[i], for each i in order. Refuses with 5, and leaves the output
-    // unchanged, if the lengths do not fit.
-    pub fn mul_add(self, output: &mut [f32], input: &[f32]) -> u32
+    // output[j] += data[i * stride + offset + j] * input[i], for each i in order. Refused, with the output unchanged,
+    // if the lengths do not fit.
+    pub fn mul_add(self, output: &mut [f32], input: &[f32]) -> Result<(), Refusal>
         ensures { MulAdd output.old self.entry.data.now self.entry.stride
             self.entry.offset
             input.now
@@ -44,13 +46,15 @@ impl<'a> SubMatrix<'a> {
 }
 
 // The same on a slice and the two numbers.
+// Stays: the product of SubMatrix::mul_add and sums::mul_add. All three are public, and a public function keeps its
+// name.
 pub fn mul_add_at(
     weights: &[u8],
     stride: usize,
     offset: usize,
     output: &mut [f32],
     input: &[f32],
-) -> u32
+) -> Result<(), Refusal>
     ensures { MulAdd output.old weights.now stride offset input.now result
         output.new }
 {

@@ -2,6 +2,8 @@
 ghost use Rattle.std.specs.Prelude.{◌≡◌, ◌+◌, ◌*◌, ◌%◌, ◌≤◌, eqb, length};
 ghost use Rattle.matrix.specs.Sums.{of_byte, add_column, mul_add, MulAddFits, MulAdd};
 
+use rules::Refusal;
+
 // A byte of the model as the weight that it stands for. There is no branch, so that loops over it are vectorised.
 pub fn weight(b: u8) -> f32
     ensures { result ≡ of_byte b }
@@ -14,8 +16,8 @@ fn add_column(out: &mut [f32], col: &[u8], x: f32)
     requires { length out.old ≤ length col.now }
     ensures { out.new ≡ add_column out.old col.now x }
 {
-    for j in 0..out.len() {
-        out[j] = out[j] + weight(col[j]) * x;
+    for (j, sum) in out.iter_mut().enumerate() {
+        *sum = *sum + weight(col[j]) * x;
     }
 }
 
@@ -25,12 +27,14 @@ fn add_two(out: &mut [f32], first: &[u8], x: f32, second: &[u8], y: f32)
     ensures { out.new
         ≡ add_column (add_column out.old first.now x) second.now y }
 {
-    for j in 0..out.len() {
-        out[j] = out[j] + weight(first[j]) * x + weight(second[j]) * y;
+    for (j, sum) in out.iter_mut().enumerate() {
+        *sum = *sum + weight(first[j]) * x + weight(second[j]) * y;
     }
 }
 
 // `mul_add` column by column, for lengths that fit.
+// Stays: two columns a turn, and their places reckoned from the turn's number. Chunks of the input would still need it,
+// and are no plainer.
 fn columns(out: &mut [f32], weights: &[u8], stride: usize, offset: usize, input: &[f32])
     requires { MulAddFits (length out.old) (length weights.now) stride offset (length input.now) }
     ensures { out.new
@@ -59,13 +63,13 @@ fn columns(out: &mut [f32], weights: &[u8], stride: usize, offset: usize, input:
 fn wide_of(n: usize) -> usize
     ensures { (result ≤ n) × (result ≤ 128) × (result % 16 ≡ 0) }
 {
-    if n < 128 {
-        return n / 16 * 16;
-    }
-    128
+    n.min(128) / 16 * 16
 }
 
 // `mul_add`: as many sums as there are lent places are computed sixteen at a time, and the others column by column.
+// Stays: weights, stride and offset go one by one through the private functions here and in lanes, as `mul_add` gets
+// them and as its definition names them. `both` and `blocks` change the offset on the way, so a struct of the three is
+// no plainer.
 fn both(
     out: &mut [f32],
     kept: &mut [f32],
@@ -103,30 +107,25 @@ fn mul_add_core(out: &mut [f32], weights: &[u8], stride: usize, offset: usize, i
 fn is_product(len: usize, a: usize, b: usize) -> bool
     ensures { result ≡ eqb len (a * b) }
 {
-    if a == 0 {
-        return len == 0;
-    }
-    if len % a != 0 {
-        return false;
-    }
-    len / a == b
+    a.checked_mul(b) == Some(len)
 }
 
-// out[j] += weights[i * stride + offset + j] * input[i], for each i in order. Refuses with 5, and leaves out unchanged,
-// if the lengths do not fit.
-pub fn mul_add(out: &mut [f32], weights: &[u8], stride: usize, offset: usize, input: &[f32]) -> u32
+// out[j] += weights[i * stride + offset + j] * input[i], for each i in order. Refused, with out unchanged, if the
+// lengths do not fit.
+pub fn mul_add(
+    out: &mut [f32],
+    weights: &[u8],
+    stride: usize,
+    offset: usize,
+    input: &[f32],
+) -> Result<(), Refusal>
     ensures { MulAdd out.old weights.now stride offset input.now result
         out.new }
 {
-    if stride < offset {
-        return 5;
-    }
-    if stride - offset < out.len() {
-        return 5;
-    }
-    if !is_product(weights.len(), stride, input.len()) {
-        return 5;
+    let rows_fit = offset <= stride && out.len() <= stride - offset;
+    if !(rows_fit && is_product(weights.len(), stride, input.len())) {
+        return Err(Refusal::WrongLength);
     }
     mul_add_core(out, weights, stride, offset, input);
-    0
+    Ok(())
 }

@@ -22,20 +22,17 @@ use Rattle.rules.proofs.Lists.{length_tab}
 use Rattle.bands.proofs.Results.{length_corr}
 use Rattle.model.specs.Model.{read_of}
 use Rattle.model.specs.declared.Model.{Model}
-use Rattle.model.specs.declared.Reading.{Reading}
-use Rattle.model.specs.declared.Reading.TheVariants.{Good, Refused as Unread}
+use Rattle.model.specs.Reading.{Reading, Good, Refused as Unread}
 use Rattle.samples.specs.Samples.{good}
-use Rattle.desk.specs.declared.Answer.{Answer}
+use Rattle.desk.specs.Answer.{Answer}
 use Rattle.frame.specs.Effect.{Effect, refusal}
-use Rattle.frame.specs.Reply.{passed, is_heard, one_more}
+use Rattle.frame.specs.Reply.{passed, is_heard, one_more, Reply, Done, Silent, Heard, Refused}
 use Rattle.lag.specs.Lag.{own_lag}
 use Rattle.frame.specs.Share.{SHARE, PART, input_mem, kept_x, kept_ex, kept_lag, lastg, cepstral_mem, vad_state}
 use Rattle.frame.specs.Share.{noise_state}
 use Rattle.frame.specs.Share.{denoise_state}
 use Rattle.frame.specs.Heard.{scaled, energies, spoken}
 use Rattle.frame.specs.Frame.{done1, put_kept, done4}
-use Rattle.frame.specs.declared.Reply.{Reply}
-use Rattle.frame.specs.declared.Reply.TheVariants.{Done, Silent, Heard, Refused}
 use Rattle.frame.specs.declared.Way.{Way}
 use Rattle.frame.proofs.Keeps.{Keeps, end, call1_keeps, call2_keeps, call3_keeps, call4_keeps}
 use Rattle.frame.proofs.Beside.{Beside, AllApart, done1_beside, done2_beside, done3_beside, done4_beside}

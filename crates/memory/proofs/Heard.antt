@@ -9,7 +9,7 @@ use Rattle.rules.specs.Place.{Place, get, put}
 use Rattle.rules.proofs.Places.{Apart, length_get, length_put, get_put, get_put_apart}
 use Rattle.model.specs.Model.{read_of}
 use Rattle.model.specs.declared.Model.{Model}
-use Rattle.model.specs.declared.Reading.TheVariants.{Good}
+use Rattle.model.specs.Reading.{Good}
 use Rattle.network.specs.Compute.{Layered, Outcome, layers_in_place, computed}
 use Rattle.network.specs.Private.{Lengths}
 use Rattle.network.proofs.Callers.{computed_done, kept}

@@ -6,8 +6,7 @@ use Rattle.rules.specs.Place.{get}
 use Rattle.frame.specs.Written.{first_in}
 use Rattle.lag.specs.Lag.{own_lag}
 use Rattle.frame.specs.Share.{input_mem}
-use Rattle.frame.specs.Reply.{passed, is_heard}
-use Rattle.frame.specs.declared.Reply.{Reply}
+use Rattle.frame.specs.Reply.{passed, is_heard, Reply}
 use Rattle.frame.specs.declared.Way.{Way}
 use Rattle.frame.specs.Frame.{done1}
 use Rattle.halves.specs.Ways.{lag_by, forward_by}

@@ -1,6 +1,7 @@
 -- What holds of layers that the writer accepts. Assumes nothing.
---     accepted     no refusal: each layer's table is clear, the layers go together, and the buffer is long enough
---     fit          they are layers that a file can hold
+--     accepted        no refusal: each layer's table is clear, the layers go together, and the buffer is long enough
+--     few_given       the counts that are added up are below 128
+--     bytes_given     each of the shapes' numbers is a byte
 use Rattle.std.specs.Prelude.{◌+◌, ◌*◌, ◌≤◌, ◌∷◌, ◌++◌, ◌≡◌}
 use Rattle.rules.proofs.Common.{ℕ, zero, suc, false, List, [], map, sym, ap, ◌∙◌, ltb}
 use Rattle.rules.proofs.Common.{length, get_or, take, drop}

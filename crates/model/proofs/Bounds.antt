@@ -1,6 +1,6 @@
 -- What readings stay within: no longer file reads than the largest model's, and a refusal is a number of the table.
 -- Assumes nothing.
-use Rattle.std.specs.Prelude.{◌+◌, ◌*◌, ◌^◌, ◌≤◌, ◌<◌, ◌∷◌, ◌≡◌}
+use Rattle.std.specs.Prelude.{Option, Some, None, ◌+◌, ◌*◌, ◌^◌, ◌≤◌, ◌<◌, ◌∷◌, ◌≡◌}
 use Rattle.rules.proofs.Common.{ℕ, zero, suc, List, [], refl, sym, subst, length}
 use Rattle.rules.proofs.Common.{get_or, length-append}
 use native.Mathlib.Nat.{add-mul}
@@ -11,10 +11,7 @@ use Rattle.model.specs.declared.Kind.{Kind}
 use Rattle.model.specs.declared.Kind.TheVariants.{Dense, Gru}
 use Rattle.model.specs.declared.Header.{Header}
 use Rattle.model.specs.declared.Model.{Model}
-use Rattle.model.specs.declared.Found.{Found}
-use Rattle.model.specs.declared.Found.TheVariants.{At, Nothing}
-use Rattle.model.specs.declared.Reading.{Reading}
-use Rattle.model.specs.declared.Reading.TheVariants.{Good, Refused}
+use Rattle.model.specs.Reading.{Reading, Good, Refused}
 use Rattle.model.specs.Layer.{lengths, size_of, Layer, faults_of, rest_of}
 use Rattle.model.specs.Model.{kinds, headers_at, model_of, counts_in, match_faults, matched_with, read_layers}
 use Rattle.model.specs.Model.{refusing_layers, read_of}
@@ -84,10 +81,10 @@ largest s m e =
     (subst (Shaped (length s)) (sym w.model) (shape s m w)))
 
 -- a layer that is found is within 157,285 bytes
-found_small : (s : List ℕ) (j : ℕ) {k : Kind} {h : Header} → At k h ≡ found_in (read_of s) j → LiesIn 157285 k h
+found_small : (s : List ℕ) (j : ℕ) {k : Kind} {h : Header} → Some (k, h) ≡ found_in (read_of s) j → LiesIn 157285 k h
 found_small s j {k} {h} e = within s j e (of (read_of s) refl e)
   where
-    of : (r : Reading) → r ≡ read_of s → At k h ≡ found_in r j → length s ≤ 157285
+    of : (r : Reading) → r ≡ read_of s → Some (k, h) ≡ found_in r j → length s ≤ 157285
     of (Good m) good e = largest s m good
     of (Refused n l) bad e = absurd (let z : ◌≡◌ {A = ℕ} 0 1 = cc in omega arith)
 
@@ -95,27 +92,27 @@ found_small s j {k} {h} e = within s j e (of (read_of s) refl e)
 pub line_small : (s : List ℕ) (j n : ℕ) → get_or (line_in (found_in (read_of s) j) j) (n + 1) 0 < 2 ^ 32
 line_small s j n = rw (add-one n) (of (found_in (read_of s) j) refl n)
   where
-    of : (f : Found) → f ≡ found_in (read_of s) j → (n : ℕ) → get_or (line_in f j) (suc n) 0 < 2 ^ 32
-    of Nothing e zero = omega arith
-    of Nothing e (suc zero) = omega arith
-    of Nothing e (suc (suc zero)) = omega arith
-    of Nothing e (suc (suc (suc zero))) = omega arith
-    of Nothing e (suc (suc (suc (suc zero)))) = omega arith
-    of Nothing e (suc (suc (suc (suc (suc n))))) = omega arith
-    of (At k h) e zero = let w = found_small s j e in omega arith
-    of (At k h) e (suc zero) = let w = found_small s j e in omega arith
-    of (At k h) e (suc (suc zero)) = let a = number_small h.activation in omega arith
-    of (At k h) e (suc (suc (suc zero))) = let w = found_small s j e in omega arith
-    of (At k h) e (suc (suc (suc (suc zero)))) = let w = found_small s j e in omega arith
-    of (At k h) e (suc (suc (suc (suc (suc n))))) = omega arith
+    of : (f : Option (Kind × Header)) → f ≡ found_in (read_of s) j → (n : ℕ) → get_or (line_in f j) (suc n) 0 < 2 ^ 32
+    of None e zero = omega arith
+    of None e (suc zero) = omega arith
+    of None e (suc (suc zero)) = omega arith
+    of None e (suc (suc (suc zero))) = omega arith
+    of None e (suc (suc (suc (suc zero)))) = omega arith
+    of None e (suc (suc (suc (suc (suc n))))) = omega arith
+    of (Some (k, h)) e zero = let w = found_small s j e in omega arith
+    of (Some (k, h)) e (suc zero) = let w = found_small s j e in omega arith
+    of (Some (k, h)) e (suc (suc zero)) = let a = number_small h.activation in omega arith
+    of (Some (k, h)) e (suc (suc (suc zero))) = let w = found_small s j e in omega arith
+    of (Some (k, h)) e (suc (suc (suc (suc zero)))) = let w = found_small s j e in omega arith
+    of (Some (k, h)) e (suc (suc (suc (suc (suc n))))) = omega arith
 
 -- the place of an array and its length
 pub array_small : (s : List ℕ) (j w : ℕ) → let p = array_in (found_in (read_of s) j) w in p.at + p.size ≤ 157285
 array_small s j w = of (found_in (read_of s) j) refl
   where
-    of : (f : Found) → f ≡ found_in (read_of s) j → (array_in f w).at + (array_in f w).size ≤ 157285
-    of (At k h) e = place_within k h (found_small s j e) w
-    of Nothing e = omega arith
+    of : (f : Option (Kind × Header)) → f ≡ found_in (read_of s) j → (array_in f w).at + (array_in f w).size ≤ 157285
+    of (Some (k, h)) e = place_within k h (found_small s j e) w
+    of None e = omega arith
 
 -- ---- refusals
 

@@ -1,15 +1,14 @@
 -- A whole model file. Assumes nothing.
---     reads-back      six layers that fit and go together are read back from their file
---     writes-back     a file that reads is the bytes of its layers
---     same-layers     layers that share a file are the same
+--     reads_back      six layers that fit and go together are read back from their file
+--     writes_back     a file that reads is the bytes of its layers
+--     same_layers     layers that share a file are the same
 use Rattle.std.specs.Prelude.{◌∷◌, ◌++◌, ◌≡◌}
 use Rattle.rules.proofs.Common.{ℕ, false, not, List, [], refl, sym, ap, ◌∙◌, eqb, length}
 use mathlib.Core.List.{append-nil}
 use native.Mathlib.Omega.{arith}
 use borrow.Author.Tests.{eqb-true, not-false}
 use Rattle.model.specs.declared.Model.{Model}
-use Rattle.model.specs.declared.Reading.{Reading}
-use Rattle.model.specs.declared.Reading.TheVariants.{Good, Refused}
+use Rattle.model.specs.Reading.{Reading, Good, Refused}
 use Rattle.rules.proofs.Refusals.{Clear, clear, by_rows}
 use Rattle.model.specs.Layer.{Layer}
 use Rattle.model.specs.Model.{kinds, read_layers, headers_at, model_of, counts_in, match_faults, read_of}

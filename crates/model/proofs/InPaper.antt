@@ -5,8 +5,8 @@ use Rattle.rules.proofs.Refusals.{along}
 use Rattle.model.specs.Layer.{activation_number, bytes_of, layer_of, faults_of, header_at, step_number, step_values}
 use Rattle.model.specs.Layer.{step_at}
 use Rattle.model.specs.Laws.{StepInPaper}
-use Rattle.model.specs.declared.Step.{Step}
-use Rattle.model.specs.declared.Step.TheVariants as step
+use Rattle.model.specs.Step.{Step}
+use Rattle.model.specs.Step as step
 
 pub step_in_paper : StepInPaper
 unfolding step_at

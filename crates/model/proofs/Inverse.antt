@@ -1,5 +1,5 @@
 -- Reading and writing are each the other's inverse, for one layer and for layers in a row. Assumes nothing.
---     layer-reads, row_reads     the bytes of layers that fit read as these layers, and nothing refuses them
+--     layer_reads, row_reads     the bytes of layers that fit read as these layers, and nothing refuses them
 --     layer_fits, row_fits       what nothing refuses is the bytes of its layers, and they fit
 use Rattle.std.specs.Prelude.{◌≤◌, ◌∷◌, ◌++◌, ◌≡◌}
 use Rattle.rules.proofs.Common.{ℕ, zero, suc, true≢false, List, [], refl, sym, ap, subst, ◌∙◌}
@@ -14,8 +14,7 @@ use Rattle.rules.specs.Lists.{sum}
 use Rattle.model.specs.declared.Activation.{Activation}
 use Rattle.model.specs.declared.Activation.TheVariants.{Tanh, Sigmoid, Relu}
 use Rattle.model.specs.declared.Kind.{Kind}
-use Rattle.model.specs.declared.Reading.{Reading}
-use Rattle.model.specs.declared.Reading.TheVariants.{Refused}
+use Rattle.model.specs.Reading.{Reading, Refused}
 use Rattle.rules.proofs.Refusals.{Clear, clear, by_rows}
 use Rattle.model.specs.Layer.{lengths, size_of, activation_of, activation_number, joined, cut, bytes_of, Layer}
 use Rattle.model.specs.Layer.{layer_of, faults_of, rest_of}

@@ -5,12 +5,8 @@ use Rattle.rules.proofs.Common.{length-drop, length-append}
 use mathlib.Core.List.{append_assoc}
 use native.Mathlib.Nat.{add_assoc}
 use native.Mathlib.Omega.{arith}
-use lib.Seq.{take-length, take_at, drop-append-add, drop-drop, paste}
+use lib.Seq.{take_at, drop-append-add, drop-drop}
 use Rattle.model.specs.Private.{overwritten, Put}
-
-pub pasted : (out : List ℕ) (at : ℕ) (bytes : List ℕ) → paste out at bytes (length bytes) ≡ overwritten out at bytes
-unfolding overwritten
-pasted out at bytes = rw (take-length bytes) (append_assoc (take at out) bytes (drop (at + length bytes) out))
 
 pub length_over : (out : List ℕ) (at : ℕ) (bytes : List ℕ) → at + length bytes ≤ length out
     → length (overwritten out at bytes) ≡ length out

@@ -6,7 +6,7 @@ use borrow.Author.Tests.{eqb-true, not-false}
 use Rattle.rules.proofs.Refusals.{Clear}
 use Rattle.rules.proofs.Tests.{neither}
 use Rattle.model.specs.declared.Model.{Model}
-use Rattle.model.specs.declared.Reading.TheVariants.{Good}
+use Rattle.model.specs.Reading.{Good}
 use Rattle.model.specs.Model.{◌≠◌, counts_in, match_faults, read_of}
 use Rattle.model.specs.Laws.{Shaped, WellShaped}
 use Rattle.model.proofs.File.{Written, writes_back}

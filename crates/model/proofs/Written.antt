@@ -1,7 +1,7 @@
 -- The writer and the reader, each the other's inverse. Assumes nothing.
---     written-reads     what is written reads back as the same layers
---     read-writes       what reads is written back byte for byte
---     none-shared       two models that differ never share a file
+--     written_reads     what is written reads back as the same layers
+--     read_writes       what reads is written back byte for byte
+--     none_shared       two models that differ never share a file
 use Rattle.std.specs.Prelude.{◌*◌, ◌≤◌, ◌∷◌, ◌++◌, ◌≡◌}
 use Rattle.rules.proofs.Common.{ℕ, zero, suc, false, not, true≢false, List, [], map, refl}
 use Rattle.rules.proofs.Common.{sym, ap, subst, ◌∙◌, eqb, ltb}

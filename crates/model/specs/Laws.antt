@@ -10,7 +10,7 @@ use Rattle.model.specs.declared.Header.{Header}
 use Rattle.model.specs.declared.Kind.{Kind}
 use Rattle.model.specs.declared.Kind.TheVariants.{Dense, Gru}
 use Rattle.model.specs.declared.Model.{Model}
-use Rattle.model.specs.declared.Reading.TheVariants.{Good, Refused}
+use Rattle.model.specs.Reading.{Good, Refused}
 use Rattle.model.specs.Array.{found_in, array_in}
 use Rattle.model.specs.Layer.{size_of, activation_number, Layer, bytes_of, layer_of, faults_of, step_number}
 use Rattle.model.specs.Layer.{step_values}

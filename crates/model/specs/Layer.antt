@@ -1,16 +1,18 @@
 -- One layer of a model file (rnn.rs, `read_dense` and `read_gru` in `from_bytes_impl`): as data, as bytes, and what
 -- reading it gives.
-use Rattle.std.specs.Prelude.{◌+◌, ◌*◌, ◌∷◌, ◌++◌}
+use Rattle.std.specs.Prelude.{Result, MatchResult, ◌+◌, ◌*◌, ◌≤◌, ◌<◌, ◌∷◌, ◌++◌, ◌≡◌}
 use Rattle.rules.specs.Common.{ℕ, zero, suc, List, [], eqb, ltb, length, get_or, take, drop}
 use Rattle.rules.specs.Lists.{sum}
+use Rattle.rules.specs.declared.refusal.Refusal.{Refusal}
+use Rattle.rules.specs.declared.refusal.Refusal.TheVariants.{ModelActivation}
 use Rattle.rules.specs.Refusals.{Row, ◌when◌, refusing}
 use Rattle.model.specs.declared.Activation.{Activation}
 use Rattle.model.specs.declared.Activation.TheVariants.{Tanh, Sigmoid, Relu}
 use Rattle.model.specs.declared.Kind.{Kind}
 use Rattle.model.specs.declared.Kind.TheVariants.{Dense, Gru}
 use Rattle.model.specs.declared.Header.{Header}
-use Rattle.model.specs.declared.Step.{Step}
-use Rattle.model.specs.declared.Step.TheVariants as step
+use Rattle.model.specs.Step.{Step}
+use Rattle.model.specs.Step as step
 
 -- The lengths of a layer's arrays: input weights, recurrent weights, biases.
 abbrev pub lengths : Kind → ℕ → ℕ → List ℕ
@@ -32,6 +34,10 @@ abbrev pub activation_number : Activation → ℕ
 activation_number Tanh = 0
 activation_number Sigmoid = 1
 activation_number Relu = 2
+
+-- The result is the activation with this number, or refusal 14 if there is none.
+abbrev pub Numbered : ℕ → Result Activation Refusal → Type 0
+Numbered n r = MatchResult r (λ a. (n ≤ 2) × (a ≡ activation_of n)) (λ e. (2 < n) × (e ≡ ModelActivation))
 
 -- A layer as data.
 pub record Layer : Type 0 where

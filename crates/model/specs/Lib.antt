@@ -1,3 +1,5 @@
+pub mod Reading
+pub mod Step
 pub mod Layer
 pub mod Model
 pub mod Array

@@ -9,8 +9,7 @@ use Rattle.model.specs.declared.Kind.TheVariants.{Dense, Gru}
 use Rattle.model.specs.declared.Header.{Header}
 use Rattle.model.specs.declared.Counts.{Counts}
 use Rattle.model.specs.declared.Model.{Model}
-use Rattle.model.specs.declared.Reading.{Reading}
-use Rattle.model.specs.declared.Reading.TheVariants.{Good, Refused}
+use Rattle.model.specs.Reading.{Reading, Good, Refused}
 
 -- The kinds of the six layers: input_dense, vad_gru, noise_gru, denoise_gru, denoise_output and vad_output.
 abbrev pub kinds : List Kind

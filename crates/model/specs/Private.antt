@@ -6,8 +6,8 @@ use Rattle.model.specs.Layer.{size_of, activation_of, faults}
 use Rattle.model.specs.Model.{counts_at}
 use Rattle.model.specs.declared.Kind.{Kind}
 use Rattle.model.specs.declared.Counts.{Counts}
-use Rattle.model.specs.declared.Step.{Step}
-use Rattle.model.specs.declared.Step.TheVariants.{Layer, Refused}
+use Rattle.model.specs.Step.{Step}
+use Rattle.model.specs.Step.{Layer, Refused}
 
 -- The number that a table of refusals gives, or 0.
 abbrev pub fault_in : List Row → ℕ

@@ -1,13 +1,23 @@
 -- What a host learns of a file: thirty numbers, or a refusal and its layer in one number.
-use Rattle.std.specs.Prelude.{◌+◌, ◌*◌, ◌/◌, ◌%◌, ◌∷◌}
+use Rattle.std.specs.Prelude.{Result, Ok, Err, ◌+◌, ◌*◌, ◌/◌, ◌%◌, ◌∷◌}
 use Rattle.rules.specs.Common.{ℕ, List, [], length, get_or}
 use Rattle.rules.specs.Leaf.{◌leaving◌}
+use Rattle.rules.specs.Refusal.{refusal_number}
 use Rattle.rules.specs.Refusals.{◌when◌, refusing}
 use Rattle.rules.specs.Tab.{tab}
 use Rattle.model.specs.Model.{◌≠◌, read_of}
 use Rattle.model.specs.Array.{found_in, array_in, line_in}
-use Rattle.model.specs.declared.Reading.{Reading}
-use Rattle.model.specs.declared.Reading.TheVariants.{Good, Refused}
+use Rattle.model.specs.Reading.{Reading, Good, Refused}
+use Rattle.model.specs.declared.Misread.{Misread}
+
+-- Refusal r of layer l has the number r + 65,536 l.
+abbrev pub layer_number : Misread → ℕ
+layer_number e = refusal_number e.refusal + 65536 * e.layer
+
+-- What a host is told of an outcome: 0 if it is done, and else the number of its refusal with its layer.
+abbrev pub layer_told : Result Unit Misread → ℕ
+layer_told (Ok _) = 0
+layer_told (Err e) = layer_number e
 
 -- Number i. Each layer has five: those of its line in a listing, without the number of the layer.
 unfoldable pub number_in : Reading → ℕ → ℕ

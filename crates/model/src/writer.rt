@@ -2,71 +2,60 @@
 // before a byte is written.
 ghost use Rattle.std.specs.Prelude.{◌≡◌, [], ◌∷◌, ◌+◌, ◌≤◌, ◌<◌, ltb, length};
 ghost use Rattle.rules.specs.Leaf.{◌leaving◌};
+ghost use Rattle.rules.specs.Refusal.{told};
 ghost use Rattle.rules.specs.Lists.{Bytes, sum};
 ghost use Rattle.model.specs.Model.{kinds, match_faults};
 ghost use Rattle.model.specs.Writer.{arrays_of, layer_faults, in_layer, row_faults, counts_given, writer_faults};
 ghost use Rattle.model.specs.Writer.{write_model};
+ghost use Rattle.model.specs.Summary.{layer_told};
 ghost use Rattle.model.specs.Private.{fault_in, Few, counts_there, header_bytes, layer_bytes, three_bytes, Put};
 
-use crate::{Counts, Kind};
+use crate::{Counts, Kind, Misread};
+use rules::Refusal;
 
-fn wide(x: u32) -> usize
-    ensures { result ≡ x }
-{
-    x as usize
-}
-
-// Refusals 12 to 16 of a layer whose arrays have these lengths, or 0.
+// Refusals 12 to 16 of a layer whose arrays have these lengths.
 fn layer_fault(
     kind: Kind,
     inputs: usize,
     neurons: usize,
-    number: usize,
+    number: u32,
     weights: usize,
     recurrent: usize,
     bias: usize,
-) -> u32
-    ensures { result ≡ fault_in (layer_faults kind inputs neurons number (weights ∷ recurrent ∷ bias ∷ [])) }
+) -> Result<(), Refusal>
+    ensures { told result ≡ fault_in (layer_faults kind inputs neurons number (weights ∷ recurrent ∷ bias ∷ [])) }
 {
-    let fault = crate::header_fault(inputs, neurons, number);
-    if fault != 0 {
-        return fault;
-    }
+    crate::header_of(inputs, neurons, number, 0)?;
     let n = crate::array_lengths(kind, inputs, neurons);
-    if weights != n[0] {
-        return 16;
+    if weights != n[0] || recurrent != n[1] || bias != n[2] {
+        return Err(Refusal::ModelArray);
     }
-    if recurrent != n[1] {
-        return 16;
-    }
-    if bias != n[2] {
-        return 16;
-    }
-    0
+    Ok(())
 }
 
-// Refusals 12 to 16 of each layer in turn, with the layer, or 0.
-fn layers_fault(shapes: &[u32], lengths: [usize; 18]) -> u32
+// Refusals 12 to 16 of each layer in turn.
+fn layers_fault(shapes: &[u32], lengths: [usize; 18]) -> Result<(), Misread>
     requires { length shapes.now ≡ 18 }
-    ensures { result ≡ fault_in (row_faults 0 kinds shapes.now lengths) }
+    ensures { layer_told result ≡ fault_in (row_faults 0 kinds shapes.now lengths) }
 {
     let kinds = crate::kinds_in_row();
-    for layer in 0..6 {
+    for (layer, kind) in kinds.iter().enumerate() {
         let at = 3 * layer;
-        let fault = layer_fault(
-            kinds[layer],
-            wide(shapes[at]),
-            wide(shapes[at + 1]),
-            wide(shapes[at + 2]),
+        let fits = layer_fault(
+            *kind,
+            shapes[at] as usize,
+            shapes[at + 1] as usize,
+            shapes[at + 2],
             lengths[at],
             lengths[at + 1],
             lengths[at + 2],
         );
-        if fault != 0 {
-            return fault + 65536 * layer as u32;
+        if let Err(refusal) = fits {
+            let layer = layer as u8;
+            return Err(Misread { refusal, layer });
         }
     }
-    0
+    Ok(())
 }
 
 fn counts_there(shapes: &[u32], at: usize) -> Counts
@@ -74,8 +63,8 @@ fn counts_there(shapes: &[u32], at: usize) -> Counts
     ensures { result ≡ counts_there shapes.now at }
 {
     Counts {
-        inputs: wide(shapes[at]),
-        neurons: wide(shapes[at + 1]),
+        inputs: shapes[at] as usize,
+        neurons: shapes[at + 1] as usize,
     }
 }
 
@@ -93,16 +82,15 @@ fn counts_given(shapes: &[u32]) -> [Counts; 6]
     ]
 }
 
-// Refusals 18 to 22, with layer 6, or 0.
-fn model_fault(counts: [Counts; 6]) -> u32
+// Refusals 18 to 22, with layer 6.
+fn model_fault(counts: [Counts; 6]) -> Result<(), Misread>
     requires { Few counts }
-    ensures { result ≡ fault_in (in_layer 6 (match_faults counts 0)) }
+    ensures { layer_told result ≡ fault_in (in_layer 6 (match_faults counts 0)) }
 {
-    let fault = crate::match_fault(counts, 0);
-    if fault != 0 {
-        return fault + 65536 * 6;
+    match crate::match_fault(counts, 0) {
+        Ok(()) => Ok(()),
+        Err(refusal) => Err(Misread { refusal, layer: 6 }),
     }
-    0
 }
 
 // Whether a buffer is shorter than the file: six headers, and the arrays. Nothing is added that could wrap.
@@ -110,46 +98,40 @@ fn too_short(buffer: usize, lengths: [usize; 18]) -> bool
     ensures { result ≡ ltb buffer (18 + sum lengths) }
 {
     let mut left = buffer;
-    for i in 0..18 {
-        if left < lengths[i] {
+    for length in lengths {
+        if left < length {
             return true;
         }
-        left -= lengths[i];
+        left -= length;
     }
-    if left < 18 {
-        return true;
-    }
-    false
+    left < 18
 }
 
-// Every refusal in turn, or 0.
-fn fault_of(shapes: &[u32], lengths: [usize; 18], buffer: usize) -> u32
+// Every refusal in turn.
+fn fault_of(shapes: &[u32], lengths: [usize; 18], buffer: usize) -> Result<(), Misread>
     requires { length shapes.now ≡ 18 }
-    ensures { result ≡ fault_in (writer_faults shapes.now lengths (18 + sum lengths) buffer) }
+    ensures { layer_told result ≡ fault_in (writer_faults shapes.now lengths (18 + sum lengths) buffer) }
 {
-    let fault = layers_fault(shapes, lengths);
-    if fault != 0 {
-        return fault;
-    }
-    let fault = model_fault(counts_given(shapes));
-    if fault != 0 {
-        return fault;
-    }
+    layers_fault(shapes, lengths)?;
+    model_fault(counts_given(shapes))?;
     if too_short(buffer, lengths) {
-        return 24 + 65536 * 6;
+        return Err(Misread {
+            refusal: Refusal::ModelNoRoom,
+            layer: 6,
+        });
     }
-    0
+    Ok(())
 }
 
 // Writes some bytes at a place, and says where they end.
+#[tactic(auto, unfolding(crate::specs::Private::overwritten))]
 fn put(out: &mut [u8], at: usize, bytes: &[u8]) -> usize
     requires { at + length bytes.now ≤ length out.old }
     ensures { Put at bytes.now out.old result out.new }
 {
-    for i in 0..bytes.len() {
-        out[at + i] = bytes[i];
-    }
-    at + bytes.len()
+    let end = at + bytes.len();
+    out[at..end].copy_from_slice(bytes);
+    end
 }
 
 fn header_bytes(shapes: &[u32], first: usize) -> [u8; 3]
@@ -163,6 +145,8 @@ fn header_bytes(shapes: &[u32], first: usize) -> [u8; 3]
     ]
 }
 
+// Stays: a layer's arrays come one by one, here and in put_three, as `write` has them. A struct would be made there and
+// opened here, and put_three's contract would name its fields, which is no plainer.
 fn put_layer(
     out: &mut [u8],
     at: usize,
@@ -215,8 +199,9 @@ fn put_three(
     put_layer(out, at, shapes, first + 6, w2, r2, b2)
 }
 
+// Stays: an argument for each array, as the C interface has them.
 // Eighteen numbers, inputs, neurons and activation of each layer, and the arrays as they stand: the file is written at
-// the front of the buffer. Another number of shapes is refused with 5, all else with 65,536 for each layer added.
+// the front of the buffer. Another number of shapes is refused with 5 and layer 0.
 pub fn write(
     out: &mut [u8],
     shapes: &[u32],
@@ -235,14 +220,17 @@ pub fn write(
     b4: &[u8],
     w5: &[u8],
     b5: &[u8],
-) -> u32
-    ensures { (result leaving out.new) ≡ write_model shapes.now
+) -> Result<(), Misread>
+    ensures { (layer_told result leaving out.new) ≡ write_model shapes.now
         (arrays_of w0.now b0.now w1.now r1.now b1.now
         w2.now r2.now b2.now w3.now r3.now b3.now
         w4.now b4.now w5.now b5.now) out.old }
 {
     if shapes.len() != 18 {
-        return 5;
+        return Err(Misread {
+            refusal: Refusal::WrongLength,
+            layer: 0,
+        });
     }
     let lengths = [
         w0.len(),
@@ -264,10 +252,7 @@ pub fn write(
         0,
         b5.len(),
     ];
-    let fault = fault_of(shapes, lengths, out.len());
-    if fault != 0 {
-        return fault;
-    }
+    fault_of(shapes, lengths, out.len())?;
     let at = put_three(out, 0, shapes, 0, w0, &w0[..0], b0, w1, r1, b1, w2, r2, b2);
     put_three(
         out,
@@ -284,5 +269,5 @@ pub fn write(
         &w5[..0],
         b5,
     );
-    0
+    Ok(())
 }

@@ -4,7 +4,7 @@
 
 ghost use Rattle.std.specs.Prelude.{◌<◌};
 
-use model::{Cursor, Kind, Step};
+use model::{Cursor, Kind};
 use std::io;
 
 fn header(space: &mut [u8], at: usize, inputs: u8, neurons: u8, activation: u8) {
@@ -20,6 +20,7 @@ fn header(space: &mut [u8], at: usize, inputs: u8, neurons: u8, activation: u8) 
 }
 
 // A layer at the cursor, and the cursor behind it.
+// Stays: the activation is the byte of the header that is laid out, so an `Activation` is no plainer.
 fn layer(
     space: &mut [u8],
     c: Cursor,
@@ -31,12 +32,14 @@ fn layer(
     let at = c.at;
     header(space, at, inputs, neurons, activation);
     match c.layer(&space[..], kind) {
-        Step::Layer(_, next) => next,
-        Step::Refused(_) => c,
+        Ok((_, next)) => next,
+        Err(_) => c,
     }
 }
 
 // input_dense, vad_gru and noise_gru.
+// Stays: front, back and show get the counts one by one, each of them others. A struct of the four, with the bound as a
+// fact, is no plainer.
 fn front(space: &mut [u8], a: u8, b: u8, c: u8) -> Cursor
     requires { (a < 100) × (b < 100) }
 {
@@ -64,6 +67,8 @@ fn show(rt: &impl Print, space: &mut [u8], a: u8, b: u8, c: u8, d: u8) -> io::Re
     listing::list(rt, &space[..])
 }
 
+// Stays: usual and largest differ in their numbers alone, and their names say what these are. With one function for
+// both, `main` would hold the numbers without a name, which is no plainer.
 fn usual(rt: &impl Print) -> io::Result<()> {
     let mut space = [0u8; 87521];
     show(rt, &mut space, 24, 24, 48, 96)

@@ -1,7 +1,7 @@
 -- Laws of `computed`, for callers.
---     computed-wrong       where a length is wrong: 5, and all as it was
---     computed-misread     where the lengths fit and the model does not read: its number and layer, and all as it was
---     computed-done        where the lengths fit and the model reads: done, and what the six layers leave
+--     computed_wrong       where a length is wrong: 5, and all as it was
+--     computed_misread     where the lengths fit and the model does not read: its number and layer, and all as it was
+--     computed_done        where the lengths fit and the model reads: done, and what the six layers leave
 --     kept                 every buffer keeps its length
 --     answered             a refusal is 5, and a model's refusal one of its table
 -- Assumes nothing.
@@ -14,14 +14,13 @@ use Rattle.rules.specs.Refusals.{Row, ◌when◌, wrong}
 use Rattle.rules.proofs.Refusals.{clear, by_rows, Right, right, none_wrong, one_wrong, by_each}
 use Rattle.model.specs.Model.{read_of}
 use Rattle.model.specs.declared.Model.{Model}
-use Rattle.model.specs.declared.Reading.{Reading}
-use Rattle.model.specs.declared.Reading.TheVariants as read
+use Rattle.model.specs.Reading.{Reading}
+use Rattle.model.specs.Reading as read
 use Rattle.network.specs.Compute.{Layered, layered_of, six_layers, layers_in_place, Outcome, outcome_of, by_reading}
 use Rattle.network.specs.Compute.{computed}
 use Rattle.network.specs.Private.{Lengths}
 use Rattle.model.proofs.Bounds.{refused_in}
-use Rattle.network.specs.declared.Computed.{Computed}
-use Rattle.network.specs.declared.Computed.TheVariants.{Done, Refused, Misread}
+use Rattle.network.specs.Computed.{Computed, Done, Refused, Misread}
 use Rattle.network.proofs.Fitting.{few, voice_fits, gains_fit}
 use Rattle.network.proofs.Lengths.{length_dense_at, length_gru_at}
 

@@ -5,7 +5,7 @@ use native.Mathlib.Omega.{arith}
 use Rattle.model.specs.Model.{read_of}
 use Rattle.model.specs.declared.Kind.TheVariants.{Gru}
 use Rattle.model.specs.declared.Model.{Model}
-use Rattle.model.specs.declared.Reading.TheVariants.{Good}
+use Rattle.model.specs.Reading.{Good}
 use Rattle.model.proofs.Shapes.{shaped}
 use Rattle.network.specs.Private.{LayerFits, VoiceFits, DenoiseFits}
 

@@ -1,9 +1,10 @@
 -- The parts of a layer, put together: from what each call leaves to the layer's definition. Assumes nothing.
-use Rattle.std.specs.Prelude.{◌+◌, ◌*◌, ◌≤◌, ◌≡◌}
+use Rattle.std.specs.Prelude.{Result, ◌+◌, ◌*◌, ◌≤◌, ◌≡◌}
 use Rattle.rules.proofs.Common.{ℕ, List, map, ◌∙◌, length, Float}
 use native.Mathlib.Omega.{arith}
 use Rattle.rules.specs.Loop.{loop}
 use Rattle.rules.specs.F32.{part, ◌⊗◌}
+use Rattle.rules.specs.declared.refusal.Refusal.{Refusal}
 use Rattle.rules.proofs.Refusals.{left}
 use Rattle.matrix.specs.Sums.{MulAddFits, MulAdd}
 use Rattle.network.specs.Layers.{weights_scale, copied, activated, dense_of, gate_sums, update_step, reset_step}
@@ -12,7 +13,8 @@ use Rattle.network.specs.Private.{GateFits}
 use Rattle.model.specs.declared.Activation.{Activation}
 use Rattle.network.proofs.Listed.{activated_all}
 
-pub dense_joined : (weights bias : List ℕ) (activation : Activation) (input : List Float) {n k : ℕ} {a b r : List Float}
+pub dense_joined : (weights bias : List ℕ) (activation : Activation) (input : List Float) {n : ℕ}
+    {k : Result Unit Refusal} {a b r : List Float}
     → DenseArrays n (length weights) (length bias) (length input) → a ≡ copied bias → length a ≡ n
     → MulAdd a weights n 0 input k b → length b ≡ length a
     → r ≡ map (λ x. activated activation (weights_scale ⊗ x)) b → r ≡ dense_of weights bias activation input
@@ -22,7 +24,8 @@ dense_joined weights bias activation input {n} {k} {a} {b} arrays e la add lb e'
     record { rows = omega arith; columns = arrays.weighted } in
     e' ∙ activated_all activation b ∙ rw (lb ∙ la, left add fits, e, arrays.biased)
 
-pub sums_joined : (weights recurrent bias : List ℕ) (input state : List Float) (n offset : ℕ) {k l : ℕ}
+pub sums_joined : (weights recurrent bias : List ℕ) (input state : List Float) (n offset : ℕ)
+    {k l : Result Unit Refusal}
     {a b r : List Float}
     → GateFits n (length weights) (length recurrent) (length bias) offset (length input) (length state)
     → a ≡ copied (part offset (offset + n) bias) → length a ≡ n

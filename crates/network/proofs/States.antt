@@ -2,7 +2,7 @@
 --     fit_on, whole_of     the lengths fit exactly where the slice has 384 numbers
 --     side_by_side         the slice is its three states
 --     joined_in, parted    three slices that are joined in one, and taken out of it again
---     six-joined           what the layers leave, one after the other, is what the definition says
+--     six_joined           what the layers leave, one after the other, is what the definition says
 -- Assumes nothing.
 use Rattle.std.specs.Prelude.{◌+◌, ◌≤◌, ◌++◌, ◌≡◌}
 use Rattle.rules.proofs.Common.{ℕ, List, refl, sym, ap, ◌∙◌, length, take, drop, length-take}
@@ -16,7 +16,7 @@ use Rattle.rules.specs.F32.{part}
 use Rattle.rules.specs.Place.{Place, get, put}
 use Rattle.rules.proofs.Places.{Apart, length_get, length_put, get_put, get_put_apart, put_in}
 use Rattle.model.specs.declared.Model.{Model}
-use Rattle.network.specs.declared.Computed.{Computed}
+use Rattle.network.specs.Computed.{Computed}
 use Rattle.network.specs.Laws.{SideBySide}
 use Rattle.network.specs.Compute.{dense_at, gru_at, six_layers, layers_in_place, vad_in, noise_in, denoise_in}
 use Rattle.network.specs.Compute.{layered_on}

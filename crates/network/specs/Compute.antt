@@ -9,11 +9,10 @@ use Rattle.model.specs.declared.Kind.{Kind}
 use Rattle.model.specs.declared.Kind.TheVariants.{Dense, Gru}
 use Rattle.model.specs.declared.Header.{Header}
 use Rattle.model.specs.declared.Model.{Model}
-use Rattle.model.specs.declared.Reading.{Reading}
-use Rattle.model.specs.declared.Reading.TheVariants as read
+use Rattle.model.specs.Reading.{Reading}
+use Rattle.model.specs.Reading as read
 use Rattle.network.specs.Layers.{dense_of, gru_of}
-use Rattle.network.specs.declared.Computed.{Computed}
-use Rattle.network.specs.declared.Computed.TheVariants.{Done, Refused, Misread}
+use Rattle.network.specs.Computed.{Computed, Done, Refused, Misread}
 
 -- An array of a layer, as a part of the model's bytes: 0 is the input weights, 1 the recurrent weights, 2 the biases.
 abbrev pub array : List ℕ → Kind → Header → ℕ → List ℕ

@@ -2,15 +2,19 @@
 // exactly if a length does not fit or a count is outside 1 to 127.
 #![tactic(auto)]
 
-ghost use Rattle.std.specs.Prelude.{◌≡◌, length};
+ghost use Rattle.std.specs.Prelude.{◌≡◌, Ok, Err, length};
 ghost use Rattle.rules.specs.Leaf.{Leaf, ◌leaving◌};
+ghost use Rattle.rules.specs.declared.refusal.Refusal.TheVariants.{WrongLength};
+ghost use Rattle.network.specs.declared.Unfit.TheVariants.{BadModel};
 ghost use Rattle.network.specs.Compute.{outcome_of, outcome_on, computed, vad_in, noise_in, denoise_in};
+ghost use Rattle.network.specs.Computed.{computed_of};
 ghost use Rattle.network.specs.Layers.{dense_of, DenseFits, gru_of, GruFits};
 
 mod layers;
 mod six;
 
-use model::{Activation, Reading};
+use model::{Activation, Misread};
+use rules::Refusal;
 
 // A dense layer: the output is the activation of the biases plus the weights times the input.
 pub fn dense(
@@ -19,37 +23,25 @@ pub fn dense(
     bias: &[u8],
     activation: Activation,
     input: &[f32],
-) -> u32
+) -> Result<(), Refusal>
     ensures { Leaf (DenseFits (length output.old) (length weights.now)
         (length bias.now)
         (length input.now))
         (result leaving output.new)
-        (0 leaving dense_of weights.now bias.now activation input.now)
-        (5 leaving output.old) }
+        (Ok tt leaving dense_of weights.now bias.now activation input.now)
+        (Err WrongLength leaving output.old) }
 {
     let n = output.len();
     let m = input.len();
-    if n < 1 {
-        return 5;
+    if n < 1 || 127 < n || m < 1 || 127 < m {
+        return Err(Refusal::WrongLength);
     }
-    if 127 < n {
-        return 5;
+    if weights.len() != n * m || bias.len() != n {
+        return Err(Refusal::WrongLength);
     }
-    if m < 1 {
-        return 5;
-    }
-    if 127 < m {
-        return 5;
-    }
-    if weights.len() != n * m {
-        return 5;
-    }
-    if bias.len() != n {
-        return 5;
-    }
-    let table = numbers::table::all();
+    let table = layers::Table::new();
     layers::dense(output, &table, weights, bias, activation, input);
-    0
+    Ok(())
 }
 
 // A GRU layer: the state becomes the next state.
@@ -60,51 +52,52 @@ pub fn gru(
     bias: &[u8],
     activation: Activation,
     input: &[f32],
-) -> u32
+) -> Result<(), Refusal>
     ensures { Leaf (GruFits (length state.old) (length weights.now)
         (length recurrent.now)
         (length bias.now) (length input.now))
         (result leaving state.new)
-        (0 leaving gru_of weights.now recurrent.now bias.now activation
+        (Ok tt leaving gru_of weights.now recurrent.now bias.now activation
         input.now
         state.old)
-        (5 leaving state.old) }
+        (Err WrongLength leaving state.old) }
 {
     let n = state.len();
     let m = input.len();
-    if n < 1 {
-        return 5;
-    }
-    if 127 < n {
-        return 5;
-    }
-    if m < 1 {
-        return 5;
-    }
-    if 127 < m {
-        return 5;
+    if n < 1 || 127 < n || m < 1 || 127 < m {
+        return Err(Refusal::WrongLength);
     }
     let stride = 3 * n;
-    if weights.len() != stride * m {
-        return 5;
+    if weights.len() != stride * m || recurrent.len() != stride * n || bias.len() != stride {
+        return Err(Refusal::WrongLength);
     }
-    if recurrent.len() != stride * n {
-        return 5;
-    }
-    if bias.len() != stride {
-        return 5;
-    }
-    let table = numbers::table::all();
-    layers::gru_alone(state, &table, weights, recurrent, bias, activation, input);
-    0
+    let table = layers::Table::new();
+    let layer = layers::Arrays {
+        weights,
+        recurrent,
+        bias,
+        activation,
+    };
+    layers::gru_alone(state, &table, layer, input);
+    Ok(())
 }
 
-// The answer for a frame.
-#[derive(Drop)]
-pub enum Computed {
-    Done,
-    Refused(u32),
-    Misread(u32, u32),
+// Why a frame is not computed.
+// Stays: two names rather than an Option of a `Misread`, since `None` would not say that a length is wrong.
+#[derive(Clone, Copy)]
+pub enum Unfit {
+    // A length is wrong.
+    BadLength,
+    // The model does not read.
+    BadModel(Misread),
+}
+
+impl From<Misread> for Unfit {
+    ghost from_gives = { λ misread unfit. unfit ≡ BadModel misread };
+
+    fn from(misread: Misread) -> Unfit {
+        Unfit::BadModel(misread)
+    }
 }
 
 // The six layers for one frame: 42 features give 22 gains and the probability of a voice. The three states, of 128
@@ -115,31 +108,18 @@ pub fn compute_on(
     states: &mut [f32],
     model: &[u8],
     features: &[f32],
-) -> Computed
-    ensures { outcome_on result gains.new voice.new states.new
+) -> Result<(), Unfit>
+    ensures { outcome_on (computed_of result) gains.new voice.new states.new
         ≡ computed gains.old voice.old (vad_in states.old)
         (noise_in states.old)
         (denoise_in states.old) model.now features.now }
 {
-    if gains.len() != 22 {
-        return Computed::Refused(5);
+    if gains.len() != 22 || voice.len() != 1 || states.len() != 384 || features.len() != 42 {
+        return Err(Unfit::BadLength);
     }
-    if voice.len() != 1 {
-        return Computed::Refused(5);
-    }
-    if states.len() != 384 {
-        return Computed::Refused(5);
-    }
-    if features.len() != 42 {
-        return Computed::Refused(5);
-    }
-    match model::read(model) {
-        Reading::Good(m) => {
-            six::frame(gains, voice, states, model, m, features);
-            Computed::Done
-        }
-        Reading::Refused(number, layer) => Computed::Misread(number, layer),
-    }
+    let m = model::read(model)?;
+    six::frame(gains, voice, states, model, m, features);
+    Ok(())
 }
 
 // The same with each state in a slice of its own.
@@ -151,27 +131,21 @@ pub fn compute(
     denoise: &mut [f32],
     model: &[u8],
     features: &[f32],
-) -> Computed
-    ensures { outcome_of result gains.new voice.new vad.new noise.new
+) -> Result<(), Unfit>
+    ensures { outcome_of (computed_of result) gains.new voice.new vad.new noise.new
         denoise.new
         ≡ computed gains.old voice.old vad.old noise.old
         denoise.old
         model.now features.now }
 {
-    if vad.len() != 128 {
-        return Computed::Refused(5);
-    }
-    if noise.len() != 128 {
-        return Computed::Refused(5);
-    }
-    if denoise.len() != 128 {
-        return Computed::Refused(5);
+    if vad.len() != 128 || noise.len() != 128 || denoise.len() != 128 {
+        return Err(Unfit::BadLength);
     }
     let mut states = [0.0f32; 384];
     six::join(&mut states, vad, noise, denoise);
     let answer = compute_on(gains, voice, &mut states, model, features);
-    rules::copy(vad, &states[0..128]);
-    rules::copy(noise, &states[128..256]);
-    rules::copy(denoise, &states[256..384]);
+    vad.copy_from_slice(&states[0..128]);
+    noise.copy_from_slice(&states[128..256]);
+    denoise.copy_from_slice(&states[256..384]);
     answer
 }

@@ -1,15 +1,17 @@
 // The six layers of a model that reads. `model::place_in` gives the places of a layer's arrays in the bytes of the
 // model.
+// Stays: table, bytes, m and features go side by side from frame_in to the layers. In a struct, the contracts would
+// name each of them through its entry, as they do the arrays of layers::gru, and that is no plainer.
 ghost use Rattle.std.specs.Prelude.{◌≡◌, ◌++◌, ◌+◌, ◌≤◌, length, take};
-ghost use Rattle.numbers.specs.Tansig.{tansig};
 ghost use Rattle.model.specs.declared.Kind.TheVariants.{Dense, Gru};
-ghost use Rattle.model.specs.declared.Reading.TheVariants.{Good};
+ghost use Rattle.model.specs.Reading.{Good};
 ghost use Rattle.model.specs.Model.{read_of};
 ghost use Rattle.rules.specs.Place.{get, put};
 ghost use Rattle.network.specs.Compute.{dense_at, gru_at, layered_on, layers_in_place, vad_in, noise_in, denoise_in};
 ghost use Rattle.network.specs.Private.{state_at, LayerFits, VoiceFits, DenoiseFits};
 
 use crate::layers;
+use crate::layers::{Arrays, Table};
 use model::{Header, Kind, Model};
 
 // Stores src from this place on; what comes before it stays.
@@ -18,9 +20,8 @@ fn put(buf: &mut [f32], at: usize, src: &[f32])
     ensures { take (at + length src.now) buf.new
         ≡ take at buf.old ++ src.now }
 {
-    for i in 0..src.len() {
-        buf[at + i] = src[i];
-    }
+    let end = at + src.len();
+    buf[at..end].copy_from_slice(src);
 }
 
 // Stores three slices, one after the other, at the front of buf.
@@ -38,9 +39,8 @@ pub(crate) fn join(buf: &mut [f32], first: &[f32], second: &[f32], third: &[f32]
 }
 
 // The dense layer with this header.
-fn dense(output: &mut [f32], table: &[f32; 201], bytes: &[u8], h: Header, input: &[f32])
-    requires { (table.now ≡ tansig)
-        × LayerFits Dense h (length bytes.now) (length output.old) (length input.now) }
+fn dense(output: &mut [f32], table: &Table, bytes: &[u8], h: Header, input: &[f32])
+    requires { LayerFits Dense h (length bytes.now) (length output.old) (length input.now) }
     ensures { output.new ≡ dense_at bytes.now h input.now }
 {
     let weights = model::place_in(bytes.len(), Kind::Dense, h, 0);
@@ -63,14 +63,14 @@ fn dense(output: &mut [f32], table: &[f32; 201], bytes: &[u8], h: Header, input:
 // The same with an input that is in `states` from `at` on.
 fn dense_on(
     output: &mut [f32],
-    table: &[f32; 201],
+    table: &Table,
     bytes: &[u8],
     h: Header,
     states: &[f32],
     at: usize,
     n: usize,
 )
-    requires { (table.now ≡ tansig) × (at + n ≤ length states.now)
+    requires { (at + n ≤ length states.now)
         × LayerFits Dense h (length bytes.now) (length output.old) n }
     ensures { output.new
         ≡ dense_at bytes.now h (get (record { at = at; size = n }) states.now) }
@@ -80,8 +80,8 @@ fn dense_on(
 }
 
 // The GRU layer with this header, whose state is in `states` from `at` on.
-fn gru(states: &mut [f32], at: usize, table: &[f32; 201], bytes: &[u8], h: Header, input: &[f32])
-    requires { (table.now ≡ tansig) × (at + h.neurons ≤ length states.old)
+fn gru(states: &mut [f32], at: usize, table: &Table, bytes: &[u8], h: Header, input: &[f32])
+    requires { (at + h.neurons ≤ length states.old)
         × LayerFits Gru h (length bytes.now) h.neurons (length input.now) }
     ensures { states.new ≡ put (state_at at h) states.old
         (gru_at bytes.now h input.now (get (state_at at h) states.old)) }
@@ -96,16 +96,13 @@ fn gru(states: &mut [f32], at: usize, table: &[f32; 201], bytes: &[u8], h: Heade
     let b = bias.at;
     let b_end = b + bias.size;
     let last = at + h.neurons;
-    let activation = h.activation;
-    layers::gru_alone(
-        &mut states[at..last],
-        table,
-        &bytes[w..w_end],
-        &bytes[r..r_end],
-        &bytes[b..b_end],
-        activation,
-        input,
-    );
+    let layer = Arrays {
+        weights: &bytes[w..w_end],
+        recurrent: &bytes[r..r_end],
+        bias: &bytes[b..b_end],
+        activation: h.activation,
+    };
+    layers::gru_alone(&mut states[at..last], table, layer, input);
 }
 
 // input_dense, vad_gru and vad_output.
@@ -113,12 +110,12 @@ fn voice_of(
     hidden: &mut [f32],
     states: &mut [f32],
     voice: &mut [f32],
-    table: &[f32; 201],
+    table: &Table,
     bytes: &[u8],
     m: Model,
     features: &[f32],
 )
-    requires { (table.now ≡ tansig) × (length states.old ≡ 384)
+    requires { (length states.old ≡ 384)
         × VoiceFits m (length bytes.now) (length hidden.old) (length voice.old) (length features.now) }
     ensures { (hidden.new ≡ dense_at bytes.now m.input_dense features.now)
         × (states.new ≡ put (state_at 0 m.vad_gru) states.old
@@ -137,15 +134,17 @@ fn voice_of(
 }
 
 // noise_gru. Its inputs are joined before its state is written.
+// Stays: denoise_of is alike, but its first part is one of `states`, which can't be lent beside them. One function of
+// both is no plainer.
 fn noise_of(
     states: &mut [f32],
-    table: &[f32; 201],
+    table: &Table,
     bytes: &[u8],
     m: Model,
     hidden: &[f32],
     features: &[f32],
 )
-    requires { (table.now ≡ tansig) × (length states.old ≡ 384)
+    requires { (length states.old ≡ 384)
         × LayerFits Gru m.noise_gru (length bytes.now) m.noise_gru.neurons
         (length hidden.now + m.vad_gru.neurons + length features.now) }
     ensures { states.new ≡ put (state_at 128 m.noise_gru) states.old
@@ -162,8 +161,8 @@ fn noise_of(
 }
 
 // denoise_gru. Its inputs are joined before its state is written.
-fn denoise_of(states: &mut [f32], table: &[f32; 201], bytes: &[u8], m: Model, features: &[f32])
-    requires { (table.now ≡ tansig) × (length states.old ≡ 384)
+fn denoise_of(states: &mut [f32], table: &Table, bytes: &[u8], m: Model, features: &[f32])
+    requires { (length states.old ≡ 384)
         × LayerFits Gru m.denoise_gru (length bytes.now) m.denoise_gru.neurons
         (m.vad_gru.neurons + m.noise_gru.neurons + length features.now) }
     ensures { states.new ≡ put (state_at 256 m.denoise_gru) states.old
@@ -185,12 +184,12 @@ fn denoise_of(states: &mut [f32], table: &[f32; 201], bytes: &[u8], m: Model, fe
 fn gains_of(
     states: &mut [f32],
     gains: &mut [f32],
-    table: &[f32; 201],
+    table: &Table,
     bytes: &[u8],
     m: Model,
     features: &[f32],
 )
-    requires { (table.now ≡ tansig) × (length states.old ≡ 384)
+    requires { (length states.old ≡ 384)
         × DenoiseFits m (length bytes.now) (length gains.old) (length features.now) }
     ensures { (states.new ≡ put (state_at 256 m.denoise_gru) states.old
         (gru_at bytes.now m.denoise_gru
@@ -223,7 +222,7 @@ fn frame_in(
         ≡ layers_in_place bytes.now m (vad_in states.old) (noise_in states.old)
         (denoise_in states.old) features.now }
 {
-    let table = numbers::table::all();
+    let table = Table::new();
     voice_of(hidden, states, voice, &table, bytes, m, features);
     noise_of(states, &table, bytes, m, &hidden[..], features);
     gains_of(states, gains, &table, bytes, m, features);

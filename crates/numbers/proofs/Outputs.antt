@@ -1,5 +1,5 @@
 -- The filter's loop, and its promise as its callers read it. Assumes nothing.
-use Rattle.std.specs.Prelude.{◌+◌, ◌≤◌, ◌<◌, ◌∷◌, ◌++◌, ◌≡◌}
+use Rattle.std.specs.Prelude.{◌+◌, ◌≤◌, ◌<◌, ◌∷◌, ◌++◌, ◌≡◌, Result, Ok, Err}
 use Rattle.rules.proofs.Common.{ℕ, zero, suc, List, [], refl, ap, ◌∙◌, T, length, drop}
 use Rattle.rules.proofs.Common.{set, length-append, Float}
 use Rattle.rules.proofs.Common.{binary32, binary64}
@@ -8,13 +8,14 @@ use lib.Ieee.{fits, add, sub, mul}
 use Rattle.rules.specs.F32.{at}
 use Rattle.rules.specs.Leaf.{Leaf, ◌leaving◌}
 use Rattle.rules.specs.Loop.{loop}
+use Rattle.rules.specs.declared.refusal.Refusal.{Refusal}
+use Rattle.rules.specs.declared.refusal.Refusal.TheVariants.{WrongLength}
 use Rattle.rules.proofs.Refusals.{fitting}
 use Rattle.rules.proofs.Lists.{front_more}
 use Rattle.numbers.specs.declared.filter.Biquad.{Biquad}
 use Rattle.numbers.specs.declared.filter.Memory.{Memory}
-use Rattle.numbers.specs.declared.filter.Filtered.{Filtered}
 use Rattle.numbers.specs.Narrowed.{narrowed}
-use Rattle.numbers.specs.Filter.{filter_step, filtered, memory_after, outputs, answer}
+use Rattle.numbers.specs.Filter.{filter_step, filtered, memory_after, outputs}
 use Rattle.numbers.proofs.Widened.{narrowed_fits, narrowed_held}
 
 -- each number of a memory is an `f32`, at all times
@@ -90,10 +91,10 @@ module _ (k : Biquad) (mem : Memory) (input : List Float) where
   unfolding filtered
   length_outputs = as_many (length input)
 
-  -- equal lengths: 0 with the memory to go on with, and the outputs
-  pub filters : {output got : List Float} {r : Filtered}
+  -- equal lengths: the memory to go on with, and the outputs
+  pub filters : {output got : List Float} {r : Result Memory Refusal}
       → Leaf (length output ≡ length input) (r leaving got)
-      (answer 0 (memory_after k mem input) leaving outputs k mem input) (answer 5 mem leaving output)
-      → length output ≡ length input → (r ≡ answer 0 (memory_after k mem input)) × (got ≡ outputs k mem input)
+      (Ok (memory_after k mem input) leaving outputs k mem input) (Err WrongLength leaving output)
+      → length output ≡ length input → (r ≡ Ok (memory_after k mem input)) × (got ≡ outputs k mem input)
   filters served same = let e = fitting served same in
-      (ap (λ (p : Filtered × List Float). p.0) e, ap (λ (p : Filtered × List Float). p.1) e)
+      (ap (λ (p : Result Memory Refusal × List Float). p.0) e, ap (λ (p : Result Memory Refusal × List Float). p.1) e)

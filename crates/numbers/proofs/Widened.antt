@@ -1,17 +1,18 @@
 -- An `f64` rounded to an `f32` where it stands: `shortened_bits` has its pattern. What an `f32` holds is narrowed to
 -- itself (`narrowed_held`). Assumes nothing.
 use Rattle.std.specs.Prelude.{◌+◌, ◌-◌, ◌*◌, ◌/◌, ◌%◌, ◌^◌, ◌≤◌, ◌<◌, ◌≡◌}
-use Rattle.rules.proofs.Common.{ℕ, zero, suc, Bool, true, false, refl, sym}
+use Rattle.rules.proofs.Common.{ℕ, zero, suc, Bool, true, false, not, refl, sym}
 use Rattle.rules.proofs.Common.{ap, subst, ◌∙◌, T, Float}
 use Rattle.rules.proofs.Common.{binary32, binary64, nan, inf, fin, up, down}
 use Rattle.std.proofs.Common.{min, inl, inr, le_of_eq, lt_of_lt_of_le, lt_of_le_of_lt, mul_assoc}
 use Rattle.std.proofs.Common.{lt_of_mul-lt-mul_right, mul-lt-mul_of_pos_right, zero-add, zero-mul, mul_right_comm}
 use Rattle.std.proofs.Common.{arith, pow_pos, pow_mono, pow-add, shl_lt}
-use lib.Ieee.{Format, low, round, fits, of_bits, to_bits}
+use lib.Ieee.{Format, low, round, is_nan, fits, of_bits, to_bits}
 use lib.Ieee.Fits.{fits_widens, round-fits, nan-fits, inf-fits}
 use lib.Ieee.Bits.{of_bits-to_bits, of_bits-fits}
 use lib.Ieee.Exact.{HasValue, round_exact}
 use lib.Ieee.Nearest.{closest, closest_mono}
+use Rattle.floats.proofs.Rounded.{rounded}
 use Rattle.numbers.specs.Narrowed.{narrowed}
 use Rattle.numbers.specs.Private.{with_sign}
 use Rattle.numbers.proofs.Closest.{closest_add}
@@ -152,6 +153,13 @@ unfolding narrowed
 narrowed_fits nan = nan-fits binary32
 narrowed_fits (inf s) = inf-fits binary32 s
 narrowed_fits (fin s m e) = round-fits binary32 s (m * up e) (down e)
+
+-- and is a NaN only where that is one
+pub narrowed_real : (x : Float) → T (not (is_nan x)) → T (not (is_nan (narrowed x)))
+unfolding narrowed is_nan
+narrowed_real nan h = elim h [ ]
+narrowed_real (inf s) h = tt
+narrowed_real (fin s m e) h = rounded binary32 s (λ y. T (not (is_nan y))) tt (λ n d. tt) (m * up e) (down e)
 
 stays : (x : Float) (s : Bool) (z : ℕ) → T (fits binary32 x) → HasValue x s z (2 ^ 149) → z < 2 ^ 277 → narrowed x ≡ x
 stays x s z h v l =

@@ -6,7 +6,6 @@ use Rattle.rules.specs.F64.{◌+₆₄◌, ◌-₆₄◌, ◌*₆₄◌}
 use Rattle.rules.specs.Loop.{loop}
 use Rattle.numbers.specs.declared.filter.Biquad.{Biquad}
 use Rattle.numbers.specs.declared.filter.Memory.{Memory}
-use Rattle.numbers.specs.declared.filter.Filtered.{Filtered}
 use Rattle.numbers.specs.Narrowed.{narrowed}
 
 -- The filter's memory, mem: [f32; 2], from a list.
@@ -51,7 +50,3 @@ memory_after k mem input = (filtered k mem input).0
 -- The output.
 abbrev pub outputs : Biquad → Memory → List Float → List Float
 outputs k mem input = (filtered k mem input).1
-
--- What the filter returns.
-abbrev pub answer : ℕ → Memory → Filtered
-answer number memory = record { number = number; memory = memory }

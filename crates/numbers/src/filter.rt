@@ -1,12 +1,16 @@
 // The high-pass filter of util.rs. It works in `f64` and rounds what it stores.
-ghost use Rattle.std.specs.Prelude.{◌≡◌, T, [], ◌∷◌, length};
+ghost use Rattle.std.specs.Prelude.{◌≡◌, Ok, Err, T, [], ◌∷◌, length};
 ghost use Rattle.std.specs.Float.{binary32};
 ghost use Rattle.std.specs.Float.Ieee.{fits};
 ghost use Rattle.rules.specs.Leaf.{Leaf, ◌leaving◌};
-ghost use Rattle.numbers.specs.Filter.{memory_after, outputs, answer};
+ghost use Rattle.rules.specs.declared.refusal.Refusal.TheVariants.{WrongLength};
+ghost use Rattle.numbers.specs.Filter.{memory_after, outputs};
 ghost use Rattle.numbers.specs.Private.{memory_in};
 
+use rules::Refusal;
+
 // The coefficients of y[n] = x[n] + b0 * x[n-1] + b1 * x[n-2] - a0 * y[n-1] - a1 * y[n-2].
+// Stays: the names are those of the formula, and the definition `filter_step` reads them. An array is no plainer.
 #[derive(Clone, Copy)]
 pub struct Biquad {
     pub a0: f32,
@@ -16,21 +20,17 @@ pub struct Biquad {
 }
 
 // What goes from one sample, and from one call, to the next; zeros before the first.
+// Stays: the two are fed back in different ways, and other crates name them, so a pair in an array is no plainer.
 #[derive(Clone, Copy)]
 pub struct Memory {
     pub m0: f32,
     pub m1: f32,
 }
 
-// What a call hands back: 0 and the memory to go on with, or 5 and the memory as it came.
-#[derive(Clone, Copy)]
-pub struct Filtered {
-    pub number: u32,
-    pub memory: Memory,
-}
-
 // A memory within a call, each number an `f32` still: so a turn waits for no conversion of what the turn before it
 // kept.
+// Stays: a memory with its numbers' type as a parameter is no plainer, since every other crate means that of `f32`.
+// Its two names are those of `Memory`.
 #[derive(Clone, Copy)]
 struct Kept {
     m0: f64,
@@ -52,35 +52,38 @@ impl Biquad {
         b1: 1.0,
     };
 
-    // Filters input into output; 5 where their lengths differ.
-    pub fn filter(self, output: &mut [f32], memory: Memory, input: &[f32]) -> Filtered
+    // Filters input into output, and gives the memory to go on with. Refused if their lengths differ.
+    pub fn filter(
+        self,
+        output: &mut [f32],
+        memory: Memory,
+        input: &[f32],
+    ) -> Result<Memory, Refusal>
         ensures { Leaf (length output.old ≡ length input.now)
             (result leaving output.new)
-            (answer 0 (memory_after self memory input.now) leaving outputs self memory input.now)
-            (answer 5 memory leaving output.old) }
+            (Ok (memory_after self memory input.now) leaving outputs self memory input.now)
+            (Err WrongLength leaving output.old) }
     {
         if output.len() != input.len() {
-            return Filtered { number: 5, memory };
+            return Err(Refusal::WrongLength);
         }
         let mut kept = Kept {
             m0: wide(memory.m0),
             m1: wide(memory.m1),
         };
-        for i in 0..input.len() {
-            let turned = self.turn(kept, input[i]);
+        for (i, x) in input.iter().enumerate() {
+            let turned = self.turn(kept, *x);
             kept = turned.kept;
             output[i] = turned.y;
         }
-        Filtered {
-            number: 0,
-            memory: Memory {
-                m0: crate::narrow(kept.m0),
-                m1: crate::narrow(kept.m1),
-            },
-        }
+        Ok(Memory {
+            m0: crate::narrow(kept.m0),
+            m1: crate::narrow(kept.m1),
+        })
     }
 
     // The filter over one sample. What is fed back is `y64`, before it is rounded.
+    #[tactic(auto, unfolding(crate::specs::Filter::filtered, crate::specs::Filter::filter_step))]
     fn turn(self, kept: Kept, x: f32) -> Turned
         ensures { (memory_in result.kept ≡ memory_after self (memory_in kept) (x ∷ []))
             × (result.y ∷ [] ≡ outputs self (memory_in kept) (x ∷ [])) }

@@ -5,6 +5,9 @@
 //     lists                            the activations of each number of a list, over a table that is lent
 //     Biquad                           the high-pass filter, in filter.rt
 //     narrow, sqrt                     `x as f32` of an `f64`, and the square root, from the bits
+//
+// Stays: `max`, `min`, `clamp`, `size_of` and `sign_of` are not std's. The definitions `larger`, `smaller`, `clamped`,
+// `magnitude` and `sign_of` say which zero comes out and what a NaN gives, and they may not change.
 #![tactic(auto)]
 
 ghost use Rattle.std.specs.Prelude.{◌≡◌, ◌*◌, ◌^◌, ◌<◌, ◌≤◌, ◌||◌, pos};
@@ -23,29 +26,20 @@ pub mod filter;
 pub mod lists;
 pub mod table;
 
-pub use filter::{Biquad, Filtered, Memory};
+pub use filter::{Biquad, Memory};
 
 // Whether a and b are zeros and a is -0, which alone goes to minus infinity below 1.
 fn gives_way(a: f32, b: f32) -> bool
     ensures { result ≡ yields a b }
 {
-    if a != 0.0 {
-        return false;
-    }
-    if b != 0.0 {
-        return false;
-    }
-    1.0 / a < 0.0
+    a == 0.0 && b == 0.0 && 1.0 / a < 0.0
 }
 
 // Whether x is neither a zero nor a NaN.
 fn off_zero(x: f32) -> bool
     ensures { result ≡ (lt x (f32 0) || lt (f32 0) x) }
 {
-    if x < 0.0 {
-        return true;
-    }
-    x > 0.0
+    x < 0.0 || x > 0.0
 }
 
 // The larger of a and b: the other one where one is a NaN, and +0 of two zeros. Off zero it is one predictable test and
@@ -125,14 +119,9 @@ fn place_of(x: f32) -> f32
 
 // Without its sign where it lies between -8 and 8, and 0 elsewhere.
 fn inside(x: f32) -> f32
-    ensures { result ≡ inside_of x }
+    ensures { (result ≡ inside_of x) × UpToEight result }
 {
-    if x < 8.0 {
-        if x > -8.0 {
-            return size_of(x);
-        }
-    }
-    0.0
+    if x < 8.0 && x > -8.0 { size_of(x) } else { 0.0 }
 }
 
 // The number where x lies between -8 and 8, 1 or -1 elsewhere, and 0 for a NaN.
@@ -187,6 +176,7 @@ pub fn tansig_approx(x: f32) -> f32
 }
 
 // The logistic curve, nearly.
+#[tactic(auto, unfolding(crate::specs::Activations::sigmoid_in))]
 pub fn sigmoid_approx(x: f32) -> f32
     ensures { result ≡ sigmoid_approx x }
 {
@@ -218,17 +208,25 @@ pub fn narrow(x: f64) -> f32
     if x != x {
         return 0.0 / 0.0;
     }
-    let bits: u64 = f64::to_bits(x);
-    let size: u64 = bits % 0x8000_0000_0000_0000;
-    if size >= NORMAL {
-        if size < HALF_LARGEST {
-            return f64::from_bits(rounded(bits, 29) * 0x2000_0000) as f32;
-        }
-    }
-    by_parts(x)
+    shortened(x) as f32
 }
 
-// The same of any x, by its sign and its size.
+// The same, as an `f64` still: from 2^-126 to below 2^127 the last 29 digits are rounded away where they stand.
+pub(crate) fn shortened(x: f64) -> f64
+    ensures { result ≡ narrowed x }
+{
+    if x != x {
+        return 0.0 / 0.0;
+    }
+    let bits: u64 = f64::to_bits(x);
+    let size: u64 = bits % 0x8000_0000_0000_0000;
+    if NORMAL <= size && size < HALF_LARGEST {
+        return f64::from_bits(rounded(bits, 29) * 0x2000_0000);
+    }
+    std::num::f32_to_f64_with_nan(by_parts(x))
+}
+
+// `narrow` of any x, by its sign and its size.
 fn by_parts(x: f64) -> f32
     ensures { result ≡ narrowed x }
 {
@@ -241,23 +239,6 @@ fn by_parts(x: f64) -> f32
     f32::from_bits((sign * 0x8000_0000 + narrow_magnitude(size)) as u32)
 }
 
-// The same, as an `f64` still: from 2^-126 to below 2^127 the last 29 digits are rounded away where they stand.
-pub(crate) fn shortened(x: f64) -> f64
-    ensures { result ≡ narrowed x }
-{
-    if x != x {
-        return 0.0 / 0.0;
-    }
-    let bits: u64 = f64::to_bits(x);
-    let size: u64 = bits % 0x8000_0000_0000_0000;
-    if size >= NORMAL {
-        if size < HALF_LARGEST {
-            return f64::from_bits(rounded(bits, 29) * 0x2000_0000);
-        }
-    }
-    std::num::f32_to_f64_with_nan(by_parts(x))
-}
-
 // `narrow` on bit patterns without their sign. An `f32` counts its exponent from 896 less, and has
 // 29 digits less: where it is normal, the pattern is that of the `f64`, moved down by 896 and rounded.
 // Below that the digits, with the leading one, are shifted by what the exponent lacks.
@@ -266,11 +247,7 @@ fn narrow_magnitude(a: u64) -> u64
     ensures { Narrows a result }
 {
     if a >= NORMAL {
-        let r: u64 = rounded(a - MOVED, 29);
-        if r < INFINITY {
-            return r;
-        }
-        return INFINITY;
+        return rounded(a - MOVED, 29).min(INFINITY);
     }
     if a >= HALF_SMALLEST {
         return rounded(LEAD + a % LEAD, 926 - (a >> 52));
@@ -315,10 +292,8 @@ fn root_digits(n: u64) -> u64
     if near > 0 {
         let low = 8 * near - 4;
         let high = low + 8;
-        if low * low < n {
-            if n < high * high {
-                return near;
-            }
+        if low * low < n && n < high * high {
+            return near;
         }
     }
     rounded(twice_root(n), 4)
@@ -341,6 +316,7 @@ fn guessed_digits(n: u64) -> u64
 
 // Twice the root of n, cut to a whole number, and 1 more where n is no square. The root is searched
 // for: it is at least `r`, and below `r + gap`.
+// Stays: the loop halves its gap and counts no index, so an iterator is no plainer.
 fn twice_root(n: u64) -> u64
     requires { n < 2 ^ 54 }
     ensures { result ≡ twice_root n }

@@ -1,8 +1,11 @@
 // The activations of each number of a list, in place, over a table that is lent: `table::all` is taken once for all
 // lists, since each mention of it fills it anew. The table is looked up number by number; what comes before that and
 // behind it are loops of their own, since these are vectorised.
+// Stays: a list and its spare room go side by side. places and entries write the room and read the list, and curves
+// writes the list and reads the room, so a struct of both is no plainer.
 ghost use Rattle.std.specs.Prelude.{◌≡◌, map, length};
-ghost use Rattle.rules.specs.F32.{f32, at, ◌⊕◌, ◌⊗◌};
+ghost use Rattle.std.specs.Float.Ieee.{Float};
+ghost use Rattle.rules.specs.F32.{at};
 ghost use Rattle.rules.specs.Tab.{tab};
 ghost use Rattle.numbers.specs.Larger.{rectified};
 ghost use Rattle.numbers.specs.Activations.{tansig_in, sigmoid_in};
@@ -13,8 +16,8 @@ fn places(spare: &mut [f32], xs: &[f32])
     requires { length spare.old ≡ length xs.now }
     ensures { spare.new ≡ tab (length xs.now) (λ j. place_in (at xs.now j)) }
 {
-    for j in 0..xs.len() {
-        spare[j] = crate::place_of(crate::inside(xs[j]));
+    for (j, place) in spare.iter_mut().enumerate() {
+        *place = crate::place_of(crate::inside(xs[j]));
     }
 }
 
@@ -24,8 +27,8 @@ fn entries(spare: &mut [f32], xs: &[f32], table: &[f32; 201])
     ensures { spare.new
         ≡ tab (length xs.now) (λ j. entry_in table.now (at xs.now j)) }
 {
-    for j in 0..xs.len() {
-        spare[j] = crate::entry_at(table, spare[j], xs[j]);
+    for (j, x) in xs.iter().enumerate() {
+        spare[j] = crate::entry_at(table, spare[j], *x);
     }
 }
 
@@ -35,8 +38,8 @@ fn curves(xs: &mut [f32], spare: &[f32])
     ensures { xs.new
         ≡ tab (length xs.old) (λ j. followed (at xs.old j) (at spare.now j)) }
 {
-    for j in 0..xs.len() {
-        xs[j] = crate::follow(xs[j], spare[j]);
+    for (j, x) in xs.iter_mut().enumerate() {
+        *x = crate::follow(*x, spare[j]);
     }
 }
 
@@ -50,11 +53,13 @@ fn at_once(xs: &mut [f32], spare: &mut [f32], table: &[f32; 201])
     curves(xs, &spare[..]);
 }
 
-fn one_by_one(xs: &mut [f32], table: &[f32; 201])
-    ensures { xs.new ≡ map (tansig_in table.now) xs.old }
+// Changes each number by f. A g that is all that f gives is what it does.
+fn each<F: Fn(f32) -> f32>(xs: &mut [f32], f: F)
+    requires { F.IsAlwaysCallable f }
+    ensures { (g : Float → Float) → ((x y : Float) → F.post f x y → y ≡ g x) → xs.new ≡ map g xs.old }
 {
-    for j in 0..xs.len() {
-        xs[j] = crate::tansig_in(table, xs[j]);
+    for x in xs.iter_mut() {
+        *x = f(*x);
     }
 }
 
@@ -64,44 +69,25 @@ pub fn tansigs(xs: &mut [f32], table: &[f32; 201])
 {
     let n = xs.len();
     if 128 < n {
-        one_by_one(xs, table);
+        each(xs, |x| crate::tansig_in(table, x));
         return;
     }
     let mut spare = [0.0f32; 128];
     at_once(xs, &mut spare[0..n], table);
 }
 
-fn halve(xs: &mut [f32])
-    ensures { xs.new ≡ map (λ x. f32 0x3F000000 ⊗ x) xs.old }
-{
-    for j in 0..xs.len() {
-        xs[j] = 0.5 * xs[j];
-    }
-}
-
-// From -1 to 1 to what lies between 0 and 1.
-fn lift(xs: &mut [f32])
-    ensures { xs.new ≡ map (λ x. f32 0x3F000000 ⊕ f32 0x3F000000 ⊗ x) xs.old }
-{
-    for j in 0..xs.len() {
-        xs[j] = 0.5 + 0.5 * xs[j];
-    }
-}
-
-// `sigmoid_approx` of each.
+// `sigmoid_approx` of each: halved, and then brought from between -1 and 1 to between 0 and 1.
 pub fn sigmoids(xs: &mut [f32], table: &[f32; 201])
     ensures { xs.new ≡ map (sigmoid_in table.now) xs.old }
 {
-    halve(xs);
+    each(xs, |x| 0.5 * x);
     tansigs(xs, table);
-    lift(xs);
+    each(xs, |x| 0.5 + 0.5 * x);
 }
 
 // `relu` of each.
 pub fn relus(xs: &mut [f32])
     ensures { xs.new ≡ map rectified xs.old }
 {
-    for j in 0..xs.len() {
-        xs[j] = crate::relu(xs[j]);
-    }
+    each(xs, crate::relu);
 }

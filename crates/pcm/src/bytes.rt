@@ -1,46 +1,51 @@
 // A channel of interleaved bytes as samples, and samples as 16-bit bytes.
-ghost use Rattle.std.specs.Prelude.{◌≡◌, length};
+ghost use Rattle.std.specs.Prelude.{◌≡◌, Ok, Err, length};
 ghost use Rattle.rules.specs.Leaf.{Leaf, ◌leaving◌};
+ghost use Rattle.rules.specs.declared.refusal.Refusal.TheVariants.{WrongLength};
 ghost use Rattle.pcm.specs.Pcm.{UnpackFits, unpacked, PackFits, packed};
+ghost use Rattle.pcm.specs.Private.{numbered};
+
+use crate::number::Format;
+use rules::Refusal;
 
 // `unpack` for lengths that fit.
-fn unpack_core(out: &mut [f32], bytes: &[u8], format: u32, channels: usize, channel: usize)
-    requires { UnpackFits (length out.old) (length bytes.now) format channels channel }
+fn unpack_core(out: &mut [f32], bytes: &[u8], format: Format, channels: usize, channel: usize)
+    requires { UnpackFits (length out.old) (length bytes.now) (numbered format) channels channel }
     ensures { out.new
-        ≡ unpacked (length out.old) bytes.now format channels channel }
+        ≡ unpacked (length out.old) bytes.now (numbered format) channels channel }
 {
-    let width = crate::number::width_of(format);
-    for i in 0..out.len() {
-        out[i] = crate::number::number_at(format, bytes, (i * channels + channel) * width);
+    let width = format.width();
+    for (i, sample) in out.iter_mut().enumerate() {
+        *sample = crate::number::number_at(format, bytes, (i * channels + channel) * width);
     }
 }
 
 // Fills `out` with the samples of one channel. In `bytes` the channels take turns.
-pub fn unpack(out: &mut [f32], bytes: &[u8], format: u32, channels: usize, channel: usize) -> u32
+// Stays: the format is a number, since a call from C gives one: the C interface.
+pub fn unpack(
+    out: &mut [f32],
+    bytes: &[u8],
+    format: u32,
+    channels: usize,
+    channel: usize,
+) -> Result<(), Refusal>
     ensures { Leaf (UnpackFits (length out.old) (length bytes.now) format channels channel)
         (result leaving out.new)
-        (0 leaving unpacked (length out.old) bytes.now format channels channel)
-        (5 leaving out.old) }
+        (Ok tt leaving unpacked (length out.old) bytes.now format channels channel)
+        (Err WrongLength leaving out.old) }
 {
-    let width = crate::number::width_of(format);
-    if width == 0 {
-        return 5;
+    let Ok(known) = Format::try_from(format) else {
+        return Err(Refusal::WrongLength);
+    };
+    if channels > 65535 || channel >= channels {
+        return Err(Refusal::WrongLength);
     }
-    if channels > 65535 {
-        return 5;
+    let block = channels * known.width();
+    if bytes.len() % block != 0 || bytes.len() / block != out.len() {
+        return Err(Refusal::WrongLength);
     }
-    if channel >= channels {
-        return 5;
-    }
-    let block = channels * width;
-    if bytes.len() % block != 0 {
-        return 5;
-    }
-    if bytes.len() / block != out.len() {
-        return 5;
-    }
-    unpack_core(out, bytes, format, channels, channel);
-    0
+    unpack_core(out, bytes, known, channels, channel);
+    Ok(())
 }
 
 // `pack` for lengths that fit.
@@ -48,26 +53,23 @@ fn pack_core(out: &mut [u8], samples: &[f32])
     requires { PackFits (length out.old) (length samples.now) }
     ensures { out.new ≡ packed samples.now }
 {
-    for i in 0..samples.len() {
-        let n = crate::nearest::nearest(samples[i]);
-        out[2 * i] = crate::nearest::byte_of(n, 0);
-        out[2 * i + 1] = crate::nearest::byte_of(n, 1);
+    for (i, sample) in samples.iter().enumerate() {
+        let [low, high] = crate::nearest::nearest(*sample).to_le_bytes();
+        out[2 * i] = low;
+        out[2 * i + 1] = high;
     }
 }
 
 // Writes each sample as two bytes.
-pub fn pack(out: &mut [u8], samples: &[f32]) -> u32
+pub fn pack(out: &mut [u8], samples: &[f32]) -> Result<(), Refusal>
     ensures { Leaf (PackFits (length out.old) (length samples.now))
         (result leaving out.new)
-        (0 leaving packed samples.now)
-        (5 leaving out.old) }
+        (Ok tt leaving packed samples.now)
+        (Err WrongLength leaving out.old) }
 {
-    if out.len() % 2 != 0 {
-        return 5;
-    }
-    if out.len() / 2 != samples.len() {
-        return 5;
+    if out.len() % 2 != 0 || out.len() / 2 != samples.len() {
+        return Err(Refusal::WrongLength);
     }
     pack_core(out, samples);
-    0
+    Ok(())
 }

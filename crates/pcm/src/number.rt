@@ -2,28 +2,59 @@
 ghost use Rattle.std.specs.Prelude.{◌≡◌, ◌+◌, ◌*◌, ◌<◌, ◌≤◌, length, from_bits};
 ghost use Rattle.std.specs.Float.{binary32};
 ghost use Rattle.pcm.specs.Pcm.{width, two_bytes_at, three_bytes_at, four_bytes_at, signed, clipped, halves, number_at};
+ghost use Rattle.pcm.specs.Private.{numbered, Names};
+
+// A format of samples. In a call it is the number of its bits, and 33 for whole numbers of 32 bits.
+#[derive(Clone, Copy)]
+pub(crate) enum Format {
+    Int16,
+    Int24,
+    Float32,
+    Int32,
+}
+
+// A number that names no format.
+#[derive(Clone, Copy)]
+pub(crate) struct UnknownFormat;
+
+impl TryFrom<u32> for Format {
+    type Error = UnknownFormat;
+
+    ghost try_from_gives = { Names };
+
+    fn try_from(number: u32) -> Result<Self, UnknownFormat> {
+        match number {
+            16 => Ok(Format::Int16),
+            24 => Ok(Format::Int24),
+            32 => Ok(Format::Float32),
+            33 => Ok(Format::Int32),
+            _ => Err(UnknownFormat),
+        }
+    }
+}
+
+impl Format {
+    // The bytes of a sample.
+    pub(crate) fn width(self) -> usize
+        ensures { (result ≡ width (numbered self)) × (0 < result) × (result ≤ 4) }
+    {
+        match self {
+            Format::Int16 => 2,
+            Format::Int24 => 3,
+            Format::Float32 | Format::Int32 => 4,
+        }
+    }
+}
 
 // The bytes of a sample in this format, or 0 if there is no such format.
+// Stays: the format is a number, since a call from C gives one: the C interface.
 pub fn width_of(format: u32) -> usize
     ensures { result ≡ width format }
 {
-    if format == 16 {
-        return 2;
+    match Format::try_from(format) {
+        Ok(known) => known.width(),
+        Err(_) => 0,
     }
-    if format == 24 {
-        return 3;
-    }
-    if format == 33 {
-        return 4;
-    }
-    if format == 32 { 4 } else { 0 }
-}
-
-// A byte as a number of 32 bits.
-fn wide(b: u8) -> u32
-    ensures { (result ≡ b) × (result < 256) }
-{
-    b as u32
 }
 
 // Two bytes from place a on, the low byte first.
@@ -31,7 +62,7 @@ fn two(bytes: &[u8], a: usize) -> u32
     requires { a + 2 ≤ length bytes.now }
     ensures { (result ≡ two_bytes_at bytes.now a) × (result < 65536) }
 {
-    wide(bytes[a]) + 256 * wide(bytes[a + 1])
+    u16::from_le_bytes([bytes[a], bytes[a + 1]]) as u32
 }
 
 // Three bytes from place a on, the low byte first.
@@ -39,7 +70,7 @@ fn three(bytes: &[u8], a: usize) -> u32
     requires { a + 3 ≤ length bytes.now }
     ensures { (result ≡ three_bytes_at bytes.now a) × (result < 16777216) }
 {
-    two(bytes, a) + 65536 * wide(bytes[a + 2])
+    u32::from_le_bytes([bytes[a], bytes[a + 1], bytes[a + 2], 0])
 }
 
 // Four bytes from place a on, the low byte first.
@@ -47,10 +78,11 @@ fn four(bytes: &[u8], a: usize) -> u32
     requires { a + 4 ≤ length bytes.now }
     ensures { result ≡ four_bytes_at bytes.now a }
 {
-    three(bytes, a) + 16777216 * wide(bytes[a + 3])
+    u32::from_le_bytes([bytes[a], bytes[a + 1], bytes[a + 2], bytes[a + 3]])
 }
 
 // Two's complement: n if it is below `half`, and otherwise n minus twice `half`.
+#[tactic(auto, using(crate::proofs::Patterns::casts), unfolding(crate::specs::Pcm::signed))]
 fn signed(half: u32, n: u32) -> f32
     requires { (n < 2 * half) × (half ≤ 8388608) }
     ensures { result ≡ signed half n }
@@ -88,6 +120,7 @@ fn clipped(y: f32, low: f32, high: f32) -> f32
 }
 
 // A whole number of 32 bits divided by 65,536: the upper two bytes are the whole part, and the lower two the fraction.
+#[tactic(auto, using(crate::proofs::Patterns::casts), unfolding(crate::specs::Pcm::halves))]
 fn halves(bytes: &[u8], a: usize) -> f32
     requires { a + 4 ≤ length bytes.now }
     ensures { result ≡ halves bytes.now a }
@@ -98,18 +131,14 @@ fn halves(bytes: &[u8], a: usize) -> f32
 }
 
 // The sample whose bytes begin at place a.
-pub(crate) fn number_at(format: u32, bytes: &[u8], a: usize) -> f32
-    requires { (0 < width format) × (a + width format ≤ length bytes.now) }
-    ensures { result ≡ number_at format bytes.now a }
+pub(crate) fn number_at(format: Format, bytes: &[u8], a: usize) -> f32
+    requires { a + width (numbered format) ≤ length bytes.now }
+    ensures { result ≡ number_at (numbered format) bytes.now a }
 {
-    if format == 16 {
-        return signed(32768, two(bytes, a));
+    match format {
+        Format::Int16 => signed(32768, two(bytes, a)),
+        Format::Int24 => clipped(signed(8388608, three(bytes, a)) / 256.0, -32768.0, 32767.0),
+        Format::Float32 => 32768.0 * clipped(float_of(four(bytes, a)), -1.0, 0.999969482421875),
+        Format::Int32 => clipped(halves(bytes, a), -32768.0, 32767.0),
     }
-    if format == 24 {
-        return clipped(signed(8388608, three(bytes, a)) / 256.0, -32768.0, 32767.0);
-    }
-    if format == 33 {
-        return clipped(halves(bytes, a), -32768.0, 32767.0);
-    }
-    32768.0 * clipped(float_of(four(bytes, a)), -1.0, 0.999969482421875)
 }

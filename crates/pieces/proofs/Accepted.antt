@@ -1,7 +1,7 @@
 -- What is known of a call that no test turned away, as one record; and that such a call is what its definition says
 -- past the tests.
---     Piece, piece-cleared, piece-accepted, piece-taken         a piece
---     Resume, resume-cleared, resume-accepted, resume-taken     a resume
+--     Piece, piece_cleared, piece_accepted, piece_taken         a piece
+--     Resume, resume_cleared, resume_accepted, resume_taken     a resume
 -- Assumes nothing.
 use Rattle.std.specs.Prelude.{◌+◌, ◌-◌, ◌*◌, ◌≤◌, ◌≡◌}
 use Rattle.rules.proofs.Common.{ℕ, true, List, eqb, leb, length, Float}

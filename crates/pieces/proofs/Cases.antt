@@ -4,13 +4,11 @@ use Rattle.std.specs.Prelude.{◌≡◌}
 use Rattle.rules.proofs.Common.{ℕ, Bool, false, not, List, eqb, length, Float}
 use Rattle.samples.specs.Samples.{good}
 use Rattle.model.specs.Model.{read_of}
-use Rattle.model.specs.declared.Reading.TheVariants.{Refused as Unread}
+use Rattle.model.specs.Reading.{Refused as Unread}
 use Rattle.frame.specs.declared.Hearing.{Hearing}
-use Rattle.frame.specs.declared.Reply.{Reply}
-use Rattle.frame.specs.declared.Reply.TheVariants.{Refused, Misread}
+use Rattle.frame.specs.Reply.{Reply, Refused, Misread, passed, ◌refusedIf◌}
 use Rattle.frame.specs.declared.Way.{Way}
 use Rattle.frame.specs.Effect.{Effect, refusal}
-use Rattle.frame.specs.Reply.{passed, ◌refusedIf◌}
 use Rattle.frame.specs.Share.{SHARE}
 use Rattle.frame.proofs.Tables.{by_number, by_rows}
 use Rattle.pieces.specs.Pieces.{waiting_in, piece_fits, piece_rows, begun, piece, resume_fits, resume_rows, resumed}

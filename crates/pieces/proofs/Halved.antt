@@ -1,7 +1,7 @@
 -- The two halves of a frame: their lengths; and that they are refused nothing with right lengths, good samples and a
 -- model that passes.
---     first-length, second-length     a half keeps the length of its part
---     first_passes, second-passes     a half, refused nothing
+--     first_length, second_length     a half keeps the length of its part
+--     first_passes, second_passes     a half, refused nothing
 -- Assumes nothing.
 use Rattle.std.specs.Prelude.{◌≤◌, ◌∷◌, ◌≡◌}
 use Rattle.rules.proofs.Common.{ℕ, Bool, true, false, cond, false≢true, List, [], refl, sym, ap, ◌∙◌}
@@ -12,14 +12,11 @@ use Rattle.rules.proofs.Lists.{length_tab}
 use Rattle.samples.specs.Samples.{good}
 use Rattle.model.specs.Model.{read_of}
 use Rattle.model.specs.declared.Model.{Model}
-use Rattle.model.specs.declared.Reading.{Reading}
-use Rattle.model.specs.declared.Reading.TheVariants.{Good, Refused as Unread}
+use Rattle.model.specs.Reading.{Reading, Good, Refused as Unread}
 use Rattle.features.specs.Silence.{energy, is_silent}
 use Rattle.frame.specs.declared.Hearing.{Hearing}
-use Rattle.frame.specs.declared.Reply.{Reply}
-use Rattle.frame.specs.declared.Reply.TheVariants.{Done, Refused}
+use Rattle.frame.specs.Reply.{Reply, Done, Refused, passed}
 use Rattle.frame.specs.declared.Way.{Way}
-use Rattle.frame.specs.Reply.{passed}
 use Rattle.frame.specs.Share.{PART, kept_ex}
 use Rattle.frame.specs.Heard.{Spoken, spoken}
 use Rattle.frame.specs.Effect.{Effect, refusal}

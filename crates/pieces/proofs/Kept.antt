@@ -6,12 +6,10 @@ use Rattle.rules.proofs.Common.{take, drop, Float}
 use Rattle.rules.specs.Place.{get, put}
 use Rattle.frame.specs.Written.{Written, nothing}
 use Rattle.frame.specs.declared.Hearing.{Hearing}
-use Rattle.frame.specs.declared.Reply.{Reply}
-use Rattle.frame.specs.declared.Reply.TheVariants.{Done, Refused, Misread}
+use Rattle.frame.specs.Reply.{Reply, Done, Refused, Misread, passed}
 use Rattle.frame.specs.declared.Way.{Way}
 use Rattle.frame.specs.Share.{SHARE}
 use Rattle.frame.specs.Effect.{Effect, refusal}
-use Rattle.frame.specs.Reply.{passed}
 use Rattle.halves.specs.Halves.{second_half}
 use Rattle.pieces.specs.Pieces.{frame_part, waits, at_end, paused, further, piece, resume}
 use Rattle.pieces.proofs.Cases.{piece_by, resume_by}

@@ -1,8 +1,8 @@
 -- From what the parts of the code leave to the definitions.
---     entered, finished, finished-length          a frame's halves, over its part of a share
---     rest-waits, rest-begins                     what becomes of the rest of a piece
---     piece-refused, piece-ends, piece-pauses     the ways that a piece ends
---     resume-refused, resume-goes                 the ways that a resume ends
+--     entered, finished, finished_length          a frame's halves, over its part of a share
+--     rest_waits, rest_begins                     what becomes of the rest of a piece
+--     piece_refused, piece_ends, piece_pauses     the ways that a piece ends
+--     resume_refused, resume_goes                 the ways that a resume ends
 -- Assumes nothing.
 use Rattle.std.specs.Prelude.{◌+◌, ◌-◌, ◌*◌, ◌≤◌, ◌<◌, ◌∷◌, ◌++◌, ◌≡◌}
 use Rattle.rules.proofs.Common.{ℕ, Bool, true, false, cond, List, [], refl}
@@ -18,11 +18,9 @@ use Rattle.frame.proofs.Buffers.{over_none, lent_over}
 use Rattle.samples.specs.Samples.{good}
 use Rattle.model.specs.Model.{read_of}
 use Rattle.frame.specs.declared.Hearing.{Hearing}
-use Rattle.frame.specs.declared.Reply.{Reply}
-use Rattle.frame.specs.declared.Reply.TheVariants.{Done}
+use Rattle.frame.specs.Reply.{Reply, Done, passed}
 use Rattle.frame.specs.declared.Way.{Way}
 use Rattle.frame.specs.Share.{SHARE}
-use Rattle.frame.specs.Reply.{passed}
 use Rattle.frame.specs.Effect.{Effect, refusal, Worked}
 use Rattle.frame.specs.Frame.{counted, checked}
 use Rattle.halves.specs.Halves.{first_half, second_half}
@@ -51,12 +49,11 @@ module _ (share : List Float) (l : length share ≡ SHARE) where
       → good samples ≡ true → length sums ≡ 22
       → Worked (first_half (get frame_part share) way samples (length sums)) reply part (sums ∷ []) (new ∷ [])
       → (put frame_part share part ≡ put frame_part share (first_half (get frame_part share) way samples 22).kept)
-      × (new ≡ first_in (first_half (get frame_part share) way samples 22).written)
+      × (new ≡ first_in (first_half (get frame_part share) way samples 22).written) × (passed reply ≡ true)
   entered way samples sums k g n w =
-      let v = rw n at w in (
-        ap (put frame_part share) v.keeps,
-        written (first_passes (get frame_part share) way samples (part_length share l) k g) v,
-      )
+      let v = rw n at w in
+      let h = first_passes (get frame_part share) way samples (part_length share l) k g in
+      (ap (put frame_part share) v.keeps, written h v, ap passed v.answers ∙ h.passes)
 
   pub finished_length : (hearing : Hearing) (logs : List Float) (model : List ℕ) {share' : List Float}
       → share' ≡ put frame_part share (second_half (get frame_part share) hearing logs model 480).kept
@@ -73,13 +70,21 @@ module _ (share : List Float) (l : length share ≡ SHARE) where
       (get (lent_from start) out ∷ []) (new ∷ [])
       → let s = second_half (get frame_part share) hearing logs model 480 in
       (reply ≡ s.answer) × ((put frame_part share part ≡ put frame_part share s.kept)
-      × (put (lent_from start) out new ≡ over (from start (first_in s.written)) out))
+      × ((put (lent_from start) out new ≡ over (from start (first_in s.written)) out) × (passed reply ≡ true)))
   finished hearing logs model out start i k room right w =
       let n : length (get (lent_from start) out) ≡ 480 =
       length_get (lent_from start) out (omega arith) ∙ add-sub_cancel_left start 480 in
       let v = rw n at w in
-      let h = second_passes (get frame_part share) hearing logs model (part_length share l) k i right in
-      (v.answers, (ap (put frame_part share) v.keeps, lent_over start 480 out _ _ (written h v) h.fills))
+      let h = second_passes (get frame_part share) hearing logs model (part_length share l) k i right in (
+        v.answers,
+        (
+          ap (put frame_part share) v.keeps,
+          (
+            lent_over start 480 out _ _ (written h v) h.fills,
+            ap passed v.answers ∙ h.passes,
+          ),
+        ),
+      )
 
 -- ---- what becomes of the rest of a piece
 

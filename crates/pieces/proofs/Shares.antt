@@ -1,8 +1,8 @@
 -- The two places of a share: frames work on the one and leave the other alone. Assumes nothing.
---     waits-waits, frame-frame       writing twice
---     frame-waits, waits-frame       the one place, where the other is written
---     waiting-back, frame_back       what was put there is what is read
---     waits-length, frame-length     a share keeps its length
+--     waits_waits, frame_frame       writing twice
+--     frame_waits, waits_frame       the one place, where the other is written
+--     waiting_back, frame_back       what was put there is what is read
+--     waits_length, frame_length     a share keeps its length
 use Rattle.std.specs.Prelude.{◌≤◌, ◌++◌, ◌≡◌}
 use Rattle.rules.proofs.Common.{ℕ, List, sym, ◌∙◌, length, take, drop, length-take, Float}
 use native.Mathlib.Omega.{arith}

@@ -1,17 +1,14 @@
 -- The rows of a table of refusals.
 --     not-not          a row that refuses where a test does not hold
---     by-model         the row of a model
+--     by_model         the row of a model
 -- Assumes nothing.
 use Rattle.std.specs.Prelude.{◌≡◌}
 use Rattle.rules.proofs.Common.{ℕ, Bool, true, false, cond, not, true≢false, List, refl}
 use borrow.Author.Tests.{not-false}
 use Rattle.model.specs.Model.{read_of}
-use Rattle.model.specs.declared.Reading.{Reading}
-use Rattle.model.specs.declared.Reading.TheVariants.{Good, Refused as Unread}
+use Rattle.model.specs.Reading.{Reading, Good, Refused as Unread}
 use Rattle.frame.specs.declared.Hearing.{Hearing}
-use Rattle.frame.specs.declared.Reply.{Reply}
-use Rattle.frame.specs.declared.Reply.TheVariants.{Done, Refused, Misread}
-use Rattle.frame.specs.Reply.{passed, ◌refusedIf◌}
+use Rattle.frame.specs.Reply.{Reply, Done, Refused, Misread, passed, ◌refusedIf◌}
 use Rattle.frame.specs.Frame.{counted, checked}
 use Rattle.frame.proofs.Tables.{not_when}
 

@@ -12,10 +12,8 @@ use Rattle.samples.specs.Samples.{good}
 use Rattle.model.specs.Model.{read_of}
 use Rattle.frame.specs.Share.{SHARE, PART}
 use Rattle.frame.specs.Effect.{Effect, unless}
-use Rattle.frame.specs.Reply.{◌refusedIf◌}
+use Rattle.frame.specs.Reply.{◌refusedIf◌, Reply, Done}
 use Rattle.frame.specs.declared.Hearing.{Hearing}
-use Rattle.frame.specs.declared.Reply.{Reply}
-use Rattle.frame.specs.declared.Reply.TheVariants.{Done}
 use Rattle.frame.specs.declared.Way.{Way}
 use Rattle.frame.specs.Frame.{counted, checked}
 use Rattle.halves.specs.Halves.{first_half, second_half}

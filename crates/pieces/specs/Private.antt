@@ -1,8 +1,7 @@
 -- For the contracts of private functions.
 use Rattle.rules.specs.Common.{ℕ, List, Float}
-use Rattle.frame.specs.Reply.{first_refusal}
+use Rattle.frame.specs.Reply.{first_refusal, Reply}
 use Rattle.frame.specs.declared.Hearing.{Hearing}
-use Rattle.frame.specs.declared.Reply.{Reply}
 use Rattle.pieces.specs.Pieces.{piece_rows, resume_rows}
 
 -- The refusal of a piece or of a resume, or Done.

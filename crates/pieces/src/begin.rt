@@ -1,47 +1,43 @@
 // A piece: its samples wait after those that wait already, or 480 of them all begin its first frame.
 ghost use Rattle.std.specs.Prelude.{◌≡◌, [], ◌∷◌, length};
+ghost use Rattle.frame.specs.Answer.{as_reply, test_as_reply};
 ghost use Rattle.frame.specs.Effect.{Worked};
 ghost use Rattle.pieces.specs.Pieces.{piece_fits, piece};
 ghost use Rattle.pieces.specs.Private.{piece_reply};
 
-use frame::{Reply, Way};
+use frame::{Cause, Told, Way};
+use rules::Refusal;
 
 // Whether a piece of this size, with so many samples waiting, fits its buffers.
+#[tactic(auto, using(rules::proofs::Tests::tests), unfolding(crate::specs::Pieces::piece_fits))]
 pub fn piece_fits(waiting: usize, size: usize, out: usize, sums: usize) -> bool
     ensures { result ≡ piece_fits waiting size out sums }
 {
-    if waiting > 479 {
-        return false;
-    }
-    if size < 1 {
-        return false;
-    }
-    if size > 4096 {
-        return false;
-    }
-    if 480 * ((waiting + size) / 480) > out {
-        return false;
-    }
-    sums == 22
+    waiting <= 479
+        && size >= 1
+        && size <= 4096
+        && 480 * ((waiting + size) / 480) <= out
+        && sums == 22
 }
 
-// Refusals 5 and 9 of a piece, or Done.
-fn piece_reply(share: &[f32], waiting: usize, samples: &[f32], out: usize, sums: usize) -> Reply
-    ensures { result ≡ piece_reply share.now waiting samples.now out sums }
+// The tests of a piece: refusals 5 and 9.
+#[tactic(auto, using(rules::proofs::Tests::tests), unfolding(crate::specs::Private::piece_reply))]
+fn piece_tests(
+    share: &[f32],
+    waiting: usize,
+    samples: &[f32],
+    out: usize,
+    sums: usize,
+) -> Result<(), Cause>
+    ensures { test_as_reply result ≡ piece_reply share.now waiting samples.now out sums }
 {
-    if share.len() != frame::SHARE {
-        return Reply::Refused(5);
+    if share.len() != frame::SHARE || !piece_fits(waiting, samples.len(), out, sums) {
+        return Err(Cause::Plain(Refusal::WrongLength));
     }
-    if !piece_fits(waiting, samples.len(), out, sums) {
-        return Reply::Refused(5);
+    if !crate::waiting::waiting_good(share, waiting) || !samples::all_good(samples) {
+        return Err(Cause::Plain(Refusal::BadSample));
     }
-    if !crate::waiting::waiting_good(share, waiting) {
-        return Reply::Refused(9);
-    }
-    if !samples::all_good(samples) {
-        return Reply::Refused(9);
-    }
-    Reply::Done
+    Ok(())
 }
 
 // Begins a piece. Its samples and those waiting wait on, or the first 480 of them begin a frame and 22 sums
@@ -53,23 +49,20 @@ pub fn piece(
     samples: &[f32],
     out: &mut [f32],
     sums: &mut [f32],
-) -> Reply
+) -> Result<Told, Cause>
     ensures { Worked
         (piece share.old way waiting samples.now (length out.old)
         (length sums.old))
-        result share.new (out.old ∷ sums.old ∷ []) (out.new ∷ sums.new ∷ []) }
+        (as_reply result) share.new (out.old ∷ sums.old ∷ []) (out.new ∷ sums.new ∷ []) }
 {
-    let reply = piece_reply(share, waiting, samples, out.len(), sums.len());
-    if !frame::passed(reply) {
-        return reply;
-    }
+    piece_tests(share, waiting, samples, out.len(), sums.len())?;
     let mut first = [0.0f32; 480];
     crate::waiting::gather(&mut first, share, waiting, samples);
     if waiting + samples.len() < 480 {
         crate::waiting::settle(share, &first);
-        return Reply::Done;
+        return Ok(Told::Done);
     }
     crate::waiting::empty(share);
     crate::frames::enter(share, way, &first, sums);
-    Reply::Done
+    Ok(Told::Done)
 }

@@ -3,16 +3,27 @@ ghost use Rattle.std.specs.Prelude.{true, not, ◌≡◌, [], ◌∷◌, ◌≤�
 ghost use Rattle.frame.specs.Written.{nothing};
 ghost use Rattle.samples.specs.Samples.{good};
 ghost use Rattle.model.specs.Model.{read_of};
-ghost use Rattle.frame.specs.declared.Reply.TheVariants.{Done};
+ghost use Rattle.frame.specs.Reply.{Done};
+ghost use Rattle.frame.specs.Answer.{as_reply, test_as_reply};
 ghost use Rattle.frame.specs.Effect.{Worked};
 ghost use Rattle.frame.specs.Reply.{◌refusedIf◌, first_refusal};
 ghost use Rattle.frame.specs.Frame.{counted, checked};
-ghost use Rattle.pieces.specs.Pieces.{further, resume_fits, resume};
+ghost use Rattle.pieces.specs.Pieces.{further, waited_of, resume_fits, resume};
 ghost use Rattle.pieces.specs.Private.{resume_reply};
 
-use frame::{Hearing, Reply, Way};
+use frame::{Cause, Hearing, Told, Way};
+use rules::Refusal;
+
+// How many samples waited when the piece began, of which so many are in frames.
+fn waited_of(progress: usize) -> usize
+    requires { progress ≤ 4096 }
+    ensures { result ≡ waited_of progress }
+{
+    480 * ((progress + 479) / 480) - progress
+}
 
 // Whether a resume of the noted piece fits its buffers.
+#[tactic(auto, using(rules::proofs::Tests::tests), unfolding(crate::specs::Pieces::resume_fits))]
 fn resume_fits(
     index: usize,
     piece: usize,
@@ -24,48 +35,31 @@ fn resume_fits(
 ) -> bool
     ensures { result ≡ resume_fits index piece progress size logs out sums }
 {
-    if index > 7 {
-        return false;
-    }
-    if progress < 1 {
-        return false;
-    }
-    if progress > piece {
-        return false;
-    }
-    if piece > 4096 {
-        return false;
-    }
-    if size != piece {
-        return false;
-    }
-    if logs != 22 {
-        return false;
-    }
-    let waited = 480 * ((progress + 479) / 480) - progress;
-    if 480 * ((waited + size) / 480) > out {
-        return false;
-    }
-    sums == 22
+    index <= 7
+        && progress >= 1
+        && progress <= piece
+        && piece <= 4096
+        && size == piece
+        && logs == 22
+        && 480 * ((waited_of(progress) + size) / 480) <= out
+        && sums == 22
 }
 
-// The tests after the lengths: refusals 7 to 9, or Done.
-pub fn last_tests(hearing: Hearing, model: &[u8], fine: bool) -> Reply
-    ensures { result ≡ first_refusal
+// The tests after the lengths: refusals 7 to 9.
+pub fn last_tests(hearing: Hearing, model: &[u8], fine: bool) -> Result<(), Cause>
+    ensures { test_as_reply result ≡ first_refusal
         (checked (counted hearing) (read_of model.now) ∷ 9 refusedIf not fine ∷ []) }
 {
-    let reply = frame::check(model, hearing);
-    if !frame::passed(reply) {
-        return reply;
-    }
+    frame::check(model, hearing)?;
     if !fine {
-        return Reply::Refused(9);
+        return Err(Cause::Plain(Refusal::BadSample));
     }
-    Reply::Done
+    Ok(())
 }
 
-// Refusals 5 and 7 to 9 of a resume, or Done.
-fn resume_reply(
+// The tests of a resume: refusals 5 and 7 to 9.
+#[tactic(auto, using(rules::proofs::Tests::tests), unfolding(crate::specs::Private::resume_reply))]
+fn resume_tests(
     share: &[f32],
     hearing: Hearing,
     piece: usize,
@@ -75,24 +69,23 @@ fn resume_reply(
     model: &[u8],
     out: usize,
     sums: usize,
-) -> Reply
-    ensures { result
+) -> Result<(), Cause>
+    ensures { test_as_reply result
         ≡ resume_reply share.now hearing piece progress
         samples.now logs.now model.now out sums }
 {
-    if share.len() != frame::SHARE {
-        return Reply::Refused(5);
-    }
-    if !resume_fits(
-        hearing.index,
-        piece,
-        progress,
-        samples.len(),
-        logs.len(),
-        out,
-        sums,
-    ) {
-        return Reply::Refused(5);
+    if share.len() != frame::SHARE
+        || !resume_fits(
+            hearing.index,
+            piece,
+            progress,
+            samples.len(),
+            logs.len(),
+            out,
+            sums,
+        )
+    {
+        return Err(Cause::Plain(Refusal::WrongLength));
     }
     last_tests(hearing, model, samples::all_good(samples))
 }
@@ -125,14 +118,14 @@ pub fn resume(
     model: &[u8],
     out: &mut [f32],
     sums: &mut [f32],
-) -> Reply
+) -> Result<Told, Cause>
     ensures { Worked
         (resume share.old hearing piece progress
         samples.now logs.now model.now (length out.old)
         (length sums.old))
-        result share.new (out.old ∷ sums.old ∷ []) (out.new ∷ sums.new ∷ []) }
+        (as_reply result) share.new (out.old ∷ sums.old ∷ []) (out.new ∷ sums.new ∷ []) }
 {
-    let reply = resume_reply(
+    resume_tests(
         share,
         hearing,
         piece,
@@ -142,13 +135,10 @@ pub fn resume(
         model,
         out.len(),
         sums.len(),
-    );
-    if !frame::passed(reply) {
-        return reply;
-    }
+    )?;
     let start = 480 * ((progress + 479) / 480 - 1);
     let told = crate::frames::leave(share, hearing, logs, model, out, start);
     let way = hearing.way;
     go_on(share, way, samples, progress, sums);
-    told
+    Ok(told)
 }

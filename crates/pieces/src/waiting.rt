@@ -29,8 +29,8 @@ pub fn join(out: &mut [f32], front: &[f32], rest: &[f32])
     ensures { out.new
         ≡ padded_to (length out.old) (front.now ++ rest.now) }
 {
-    for i in 0..out.len() {
-        out[i] = pick(front, rest, i);
+    for (i, place) in out.iter_mut().enumerate() {
+        *place = pick(front, rest, i);
     }
 }
 
@@ -44,6 +44,7 @@ pub(crate) fn waiting_good(share: &[f32], waiting: usize) -> bool
 }
 
 // `first` becomes the samples that wait followed by those of a piece, filled up with zeros.
+#[tactic(auto, unfolding(rules::specs::Place::get))]
 pub(crate) fn gather(first: &mut [f32], share: &[f32], waiting: usize, samples: &[f32])
     requires { (length share.now ≡ 6144) × (waiting ≤ 479) }
     ensures { first.new
@@ -54,11 +55,12 @@ pub(crate) fn gather(first: &mut [f32], share: &[f32], waiting: usize, samples: 
 }
 
 // Lets the first 479 numbers wait.
+#[tactic(auto, using(rules::proofs::Refusals::left), unfolding(rules::specs::Place::get, rules::specs::Place::put))]
 pub(crate) fn settle(share: &mut [f32], first: &[f32])
     requires { (length share.old ≡ 6144) × (length first.now ≡ 480) }
     ensures { share.new ≡ put (waiting_place 479) share.old (take 479 first.now) }
 {
-    rules::copy(&mut share[FROM..TO], &first[0..479]);
+    rules::copy(&mut share[FROM..TO], &first[0..479]).unwrap();
 }
 
 // Lets nothing wait.

@@ -1,100 +1,34 @@
-// The correlations at four and at sixteen neighbouring lags, each a sum of its own in the order of the index. The
-// sixteen share each number that they multiply by, and none waits for another, so four registers of four are busy at a
-// time.
+// The correlations at N neighbouring lags, each a sum of its own in the order of the index. The N share each number
+// that they multiply by, and none waits for another. So with N of 16 four registers of four are busy at a time.
 ghost use Rattle.std.specs.Prelude.{◌≡◌, ◌+◌, ◌≤◌, length};
-ghost use Rattle.pitch.specs.Private.{add_four, four_lags, sixteen_lags, store_four, store_sixteen};
+ghost use Rattle.pitch.specs.Private.{with_products, lags_from, stored};
 
-// A number for each of four lags in a row.
-#[derive(Clone, Copy)]
-pub(crate) struct Four {
-    pub a: f32,
-    pub b: f32,
-    pub c: f32,
-    pub d: f32,
-}
-
-// And for each of sixteen.
-#[derive(Clone, Copy)]
-pub(crate) struct Sixteen {
-    pub a: Four,
-    pub b: Four,
-    pub c: Four,
-    pub d: Four,
-}
-
-// Adds the next product to each of four sums.
-fn add_four(s: Four, x: f32, ys: &[f32], p: usize) -> Four
-    requires { p + 4 ≤ length ys.now }
-    ensures { result ≡ add_four ys.now x p s }
+// Adds the next product to each of N sums.
+fn add_products<const N: usize>(sums: &mut [f32; N], x: f32, ys: &[f32], p: usize)
+    requires { p + N ≤ length ys.now }
+    ensures { sums.new ≡ with_products ys.now x p sums.old }
 {
-    Four {
-        a: s.a + x * ys[p],
-        b: s.b + x * ys[p + 1],
-        c: s.c + x * ys[p + 2],
-        d: s.d + x * ys[p + 3],
+    for (k, sum) in sums.iter_mut().enumerate() {
+        *sum = *sum + x * ys[p + k];
     }
 }
 
-// The correlations at four neighbouring lags.
-pub(crate) fn corr4(xs: &[f32], ys: &[f32], i: usize) -> Four
-    requires { i + 3 + length xs.now ≤ length ys.now }
-    ensures { result ≡ four_lags xs.now ys.now i }
+// The correlations at N neighbouring lags.
+pub(crate) fn corr_lags<const N: usize>(xs: &[f32], ys: &[f32], i: usize) -> [f32; N]
+    requires { i + N + length xs.now ≤ length ys.now + 1 }
+    ensures { result ≡ lags_from xs.now ys.now i N }
 {
-    let mut s = Four {
-        a: 0.0,
-        b: 0.0,
-        c: 0.0,
-        d: 0.0,
-    };
-    for j in 0..xs.len() {
-        s = add_four(s, xs[j], ys, i + j);
+    let mut sums = [0.0f32; N];
+    for (j, x) in xs.iter().enumerate() {
+        add_products(&mut sums, *x, ys, i + j);
     }
-    s
+    sums
 }
 
-// The correlations at sixteen neighbouring lags.
-pub(crate) fn corr16(xs: &[f32], ys: &[f32], i: usize) -> Sixteen
-    requires { i + 15 + length xs.now ≤ length ys.now }
-    ensures { result ≡ sixteen_lags xs.now ys.now i }
+// Stores N neighbouring numbers.
+pub(crate) fn put<const N: usize>(out: &mut [f32], i: usize, v: &[f32; N])
+    requires { i + N ≤ length out.old }
+    ensures { out.new ≡ stored out.old i v.now }
 {
-    let mut a = Four {
-        a: 0.0,
-        b: 0.0,
-        c: 0.0,
-        d: 0.0,
-    };
-    let mut b = a;
-    let mut c = a;
-    let mut d = a;
-    for j in 0..xs.len() {
-        let x = xs[j];
-        let p = i + j;
-        a = add_four(a, x, ys, p);
-        b = add_four(b, x, ys, p + 4);
-        c = add_four(c, x, ys, p + 8);
-        d = add_four(d, x, ys, p + 12);
-    }
-    Sixteen { a, b, c, d }
-}
-
-// Stores four neighbouring numbers.
-pub(crate) fn put_four(out: &mut [f32], i: usize, v: Four)
-    requires { i + 4 ≤ length out.old }
-    ensures { out.new ≡ store_four out.old i v }
-{
-    out[i] = v.a;
-    out[i + 1] = v.b;
-    out[i + 2] = v.c;
-    out[i + 3] = v.d;
-}
-
-// Stores sixteen neighbouring numbers.
-pub(crate) fn put_sixteen(out: &mut [f32], i: usize, v: Sixteen)
-    requires { i + 16 ≤ length out.old }
-    ensures { out.new ≡ store_sixteen out.old i v }
-{
-    put_four(out, i, v.a);
-    put_four(out, i + 4, v.b);
-    put_four(out, i + 8, v.c);
-    put_four(out, i + 12, v.d);
+    out[i..i + N].copy_from_slice(v);
 }

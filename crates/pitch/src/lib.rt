@@ -1,61 +1,60 @@
 // The arithmetic of pitch.rs up to the downsampled signal. (The search over lags is in `pitch_search`.) A public
-// function refuses with 5, and changes nothing, exactly if its lengths do not fit; its core does the work.
+// function refuses with `WrongLength`, and changes nothing, exactly if its lengths do not fit; its core does the work.
+//
+// Stays: `recur`, `update`, `lags`, `tail`, `xcorr_by` and `xcorr_rest` count an index. It is part of their sums of
+// indexes, as in `ac[i - j]`, or of their calls, so an iterator is no plainer.
 #![tactic(auto)]
 
-ghost use Rattle.std.specs.Prelude.{◌≡◌, ◌+◌, ◌<◌, ◌≤◌, length, take};
+ghost use Rattle.std.specs.Prelude.{◌≡◌, ◌+◌, ◌-◌, ◌%◌, ◌<◌, ◌≤◌, Ok, Err, length, take};
 ghost use Rattle.std.specs.Float.Ieee.{neg};
 ghost use Rattle.rules.specs.F32.{f32};
 ghost use Rattle.rules.specs.Leaf.{Leaf, ◌leaving◌};
 ghost use Rattle.rules.specs.Tab.{tab};
+ghost use Rattle.rules.specs.declared.refusal.Refusal.TheVariants.{WrongLength};
 ghost use Rattle.pitch.specs.Autocorr.{tail_of, add_tails, celt_autocorr, AutocorrFits};
 ghost use Rattle.pitch.specs.Fir.{fir5};
 ghost use Rattle.pitch.specs.Downsample.{halved_at, halved, floored_at, floored, faded_lpc, coefficients};
 ghost use Rattle.pitch.specs.Downsample.{downsampled, DownsampleFits};
 ghost use Rattle.pitch.specs.Lpc.{recurrence, mirror, state, lag_next, lags_of, lpc_of};
 ghost use Rattle.pitch.specs.Xcorr.{corr, whole_fours, lag_of, pitch_xcorr, XcorrFits};
-ghost use Rattle.pitch.specs.Private.{whole_sixteens};
 
 mod lanes;
 
+use rules::Refusal;
+
 // `fir5_in_place` for five coefficients.
-fn fir5_core(xs: &mut [f32], num: &[f32])
-    requires { length num.now ≡ 5 }
+fn fir5_core(xs: &mut [f32], num: &[f32; 5])
     ensures { xs.new ≡ fir5 xs.old num.now }
 {
-    let num0 = num[0];
-    let num1 = num[1];
-    let num2 = num[2];
-    let num3 = num[3];
-    let num4 = num[4];
+    let [num0, num1, num2, num3, num4] = *num;
     let mut mem0 = 0.0f32;
     let mut mem1 = 0.0f32;
     let mut mem2 = 0.0f32;
     let mut mem3 = 0.0f32;
     let mut mem4 = 0.0f32;
-    for i in 0..xs.len() {
-        let x = xs[i];
-        let out = x + num0 * mem0 + num1 * mem1 + num2 * mem2 + num3 * mem3 + num4 * mem4;
+    for place in xs.iter_mut() {
+        let x = *place;
+        *place = x + num0 * mem0 + num1 * mem1 + num2 * mem2 + num3 * mem3 + num4 * mem4;
         mem4 = mem3;
         mem3 = mem2;
         mem2 = mem1;
         mem1 = mem0;
         mem0 = x;
-        xs[i] = out;
     }
 }
 
 // A filter of five coefficients, applied to `xs` in place.
-pub fn fir5_in_place(xs: &mut [f32], num: &[f32]) -> u32
+pub fn fir5_in_place(xs: &mut [f32], num: &[f32]) -> Result<(), Refusal>
     ensures { Leaf (length num.now ≡ 5)
         (result leaving xs.new)
-        (0 leaving fir5 xs.old num.now)
-        (5 leaving xs.old) }
+        (Ok tt leaving fir5 xs.old num.now)
+        (Err WrongLength leaving xs.old) }
 {
-    if num.len() != 5 {
-        return 5;
-    }
+    let Some(num) = num.as_array::<5>() else {
+        return Err(Refusal::WrongLength);
+    };
     fir5_core(xs, num);
-    0
+    Ok(())
 }
 
 // The sum of lpc[j] * ac[i - j] for the j below i.
@@ -122,69 +121,51 @@ fn lpc_core(lpc: &mut [f32], ac: &[f32])
 }
 
 // Linear predictive coding: the coefficients for as many lags as `lpc` has places, from autocorrelations.
-pub fn lpc(lpc: &mut [f32], ac: &[f32]) -> u32
+pub fn lpc(lpc: &mut [f32], ac: &[f32]) -> Result<(), Refusal>
     ensures { Leaf (length lpc.old < length ac.now)
         (result leaving lpc.new)
-        (0 leaving lpc_of (length lpc.old) ac.now)
-        (5 leaving lpc.old) }
+        (Ok tt leaving lpc_of (length lpc.old) ac.now)
+        (Err WrongLength leaving lpc.old) }
 {
     if ac.len() <= lpc.len() {
-        return 5;
+        return Err(Refusal::WrongLength);
     }
     lpc_core(lpc, ac);
-    0
+    Ok(())
 }
 
 // The correlation at one lag, summed from -0.0 as an iterator sums it.
+// Stays: `lanes::corr_lags` starts from +0.0. Which lags start from which zero is said by the definition `lag_of`,
+// which may not change.
 fn corr1(xs: &[f32], ys: &[f32], i: usize) -> f32
     requires { i + length xs.now ≤ length ys.now }
     ensures { result ≡ corr (neg (f32 0)) xs.now ys.now i }
 {
     let mut sum = -0.0f32;
-    for j in 0..xs.len() {
-        sum = sum + xs[j] * ys[i + j];
+    for (j, x) in xs.iter().enumerate() {
+        sum = sum + *x * ys[i + j];
     }
     sum
 }
 
-// The lags that are computed sixteen at a time.
-fn xcorr_sixteens(xs: &[f32], ys: &[f32], xcorr: &mut [f32])
-    requires { XcorrFits (length xs.now) (length ys.now) (length xcorr.old) }
-    ensures { take (whole_sixteens (length xcorr.old)) xcorr.new
-        ≡ tab (whole_sixteens (length xcorr.old))
-        (lag_of xs.now ys.now (length xcorr.old)) }
-{
-    for k in 0..xcorr.len() / 16 {
-        let i = 16 * k;
-        lanes::put_sixteen(xcorr, i, lanes::corr16(xs, ys, i));
-    }
-}
-
-// The lags after these that are computed four at a time.
-fn xcorr_fours_left(xs: &[f32], ys: &[f32], xcorr: &mut [f32])
+// The lags from `from` on that are computed N at a time.
+// Stays: that the three lengths fit is asked by `xcorr_by`, `xcorr_rest` and `pitch_xcorr_core`. Two of the slices are
+// read and one is written, and all have any length, so a struct of the three is no plainer.
+fn xcorr_by<const N: usize>(xs: &[f32], ys: &[f32], xcorr: &mut [f32], from: usize)
     requires lengths_fit { XcorrFits (length xs.now) (length ys.now) (length xcorr.old) }
-    requires sixteens_done { take (whole_sixteens (length xcorr.old)) xcorr.old
-        ≡ tab (whole_sixteens (length xcorr.old)) (lag_of xs.now ys.now (length xcorr.old)) }
-    ensures { take (whole_fours (length xcorr.old)) xcorr.new
-        ≡ tab (whole_fours (length xcorr.old))
+    requires fours { (0 < N) × (N % 4 ≡ 0) × (from % 4 ≡ 0) }
+    requires steps { (from ≤ length xcorr.old) × ((length xcorr.old - from) % N ≡ length xcorr.old % N) }
+    requires front_done { take from xcorr.old ≡ tab from (lag_of xs.now ys.now (length xcorr.old)) }
+    ensures { take (length xcorr.old - length xcorr.old % N) xcorr.new
+        ≡ tab (length xcorr.old - length xcorr.old % N)
         (lag_of xs.now ys.now (length xcorr.old)) }
 {
     let n = xcorr.len();
-    for k in n / 16 * 4..n / 4 {
-        let i = 4 * k;
-        lanes::put_four(xcorr, i, lanes::corr4(xs, ys, i));
+    let mut i = from;
+    while n - i >= N {
+        lanes::put(xcorr, i, &lanes::corr_lags::<N>(xs, ys, i));
+        i += N;
     }
-}
-
-// All lags that the Rust computes four at a time.
-fn xcorr_fours(xs: &[f32], ys: &[f32], xcorr: &mut [f32])
-    requires { XcorrFits (length xs.now) (length ys.now) (length xcorr.old) }
-    ensures { take (whole_fours (length xcorr.old)) xcorr.new
-        ≡ tab (whole_fours (length xcorr.old))
-        (lag_of xs.now ys.now (length xcorr.old)) }
-{
-    xcorr_sixteens(xs, ys, xcorr);
-    xcorr_fours_left(xs, ys, xcorr);
 }
 
 // The lags that are left.
@@ -207,34 +188,30 @@ fn pitch_xcorr_core(xs: &[f32], ys: &[f32], xcorr: &mut [f32])
     ensures { xcorr.new
         ≡ pitch_xcorr xs.now ys.now (length xcorr.old) }
 {
-    xcorr_fours(xs, ys, xcorr);
+    let n = xcorr.len();
+    xcorr_by::<16>(xs, ys, xcorr, 0);
+    xcorr_by::<4>(xs, ys, xcorr, n - n % 16);
     xcorr_rest(xs, ys, xcorr);
 }
 
 // The correlations of xs with ys, at as many lags as xcorr has places.
-pub fn pitch_xcorr(xs: &[f32], ys: &[f32], xcorr: &mut [f32]) -> u32
+pub fn pitch_xcorr(xs: &[f32], ys: &[f32], xcorr: &mut [f32]) -> Result<(), Refusal>
     ensures { Leaf (XcorrFits (length xs.now) (length ys.now)
         (length xcorr.old))
         (result leaving xcorr.new)
-        (0 leaving pitch_xcorr xs.now ys.now (length xcorr.old))
-        (5 leaving xcorr.old) }
+        (Ok tt leaving pitch_xcorr xs.now ys.now (length xcorr.old))
+        (Err WrongLength leaving xcorr.old) }
 {
     let n = xcorr.len();
     if n == 0 {
-        return 0;
+        return Ok(());
     }
     let m = xs.len();
-    if ys.len() < m {
-        return 5;
-    }
-    if ys.len() - m < n - 1 {
-        return 5;
-    }
-    if ys.len() - (m - m % 4) < n - n % 4 {
-        return 5;
+    if ys.len() < m || ys.len() - m < n - 1 || ys.len() - (m - m % 4) < n - n % 4 {
+        return Err(Refusal::WrongLength);
     }
     pitch_xcorr_core(xs, ys, xcorr);
-    0
+    Ok(())
 }
 
 // The products at lag k that `pitch_xcorr` left out: those from `from` on.
@@ -254,8 +231,8 @@ fn add_tails(x: &[f32], ac: &mut [f32], from: usize)
     requires { length ac.old + from ≤ length x.now + 1 }
     ensures { ac.new ≡ add_tails x.now from ac.old }
 {
-    for k in 0..ac.len() {
-        ac[k] = ac[k] + tail(x, k, from);
+    for (k, sum) in ac.iter_mut().enumerate() {
+        *sum = *sum + tail(x, k, from);
     }
 }
 
@@ -270,20 +247,17 @@ fn celt_autocorr_core(x: &[f32], ac: &mut [f32])
 }
 
 // The autocorrelation of x at the lags 0 to 4.
-pub fn celt_autocorr(x: &[f32], ac: &mut [f32]) -> u32
+pub fn celt_autocorr(x: &[f32], ac: &mut [f32]) -> Result<(), Refusal>
     ensures { Leaf (AutocorrFits (length x.now) (length ac.old))
         (result leaving ac.new)
-        (0 leaving celt_autocorr x.now)
-        (5 leaving ac.old) }
+        (Ok tt leaving celt_autocorr x.now)
+        (Err WrongLength leaving ac.old) }
 {
-    if ac.len() != 5 {
-        return 5;
-    }
-    if x.len() < 5 {
-        return 5;
+    if ac.len() != 5 || x.len() < 5 {
+        return Err(Refusal::WrongLength);
     }
     celt_autocorr_core(x, ac);
-    0
+    Ok(())
 }
 
 // Number i at half the rate: a weighted mean of three neighbours.
@@ -302,8 +276,8 @@ fn halve(x: &[f32], x_lp: &mut [f32])
     requires { DownsampleFits (length x.now) (length x_lp.old) }
     ensures { x_lp.new ≡ halved x.now }
 {
-    for i in 0..864 {
-        x_lp[i] = halve_at(x, i);
+    for (i, low) in x_lp.iter_mut().enumerate() {
+        *low = halve_at(x, i);
     }
 }
 
@@ -320,36 +294,36 @@ fn floor_at(r: f32, i: usize) -> f32
 }
 
 // Both for all five lags.
-fn floor(ac: &mut [f32])
-    requires { length ac.old ≡ 5 }
+fn floor(ac: &mut [f32; 5])
     ensures { ac.new ≡ floored ac.old }
 {
-    for i in 0..5 {
-        ac[i] = floor_at(ac[i], i);
+    for (i, r) in ac.iter_mut().enumerate() {
+        *r = floor_at(*r, i);
     }
 }
 
 // Multiplies coefficient i by 0.9, i + 1 times.
-fn fade_coefficients(lpc: &mut [f32])
-    requires { length lpc.old ≡ 4 }
+fn fade_coefficients(lpc: &mut [f32; 4])
     ensures { lpc.new ≡ faded_lpc lpc.old }
 {
     let mut tmp = 1.0f32;
-    for i in 0..4 {
+    for c in lpc.iter_mut() {
         tmp = tmp * 0.9;
-        lpc[i] = lpc[i] * tmp;
+        *c = *c * tmp;
     }
 }
 
-// The coefficients of the filter that flattens x_lp, with lent places for its sums.
-fn flatten_in(x_lp: &[f32], ac: &mut [f32], c: &mut [f32]) -> [f32; 5]
-    requires { (5 ≤ length x_lp.now) × (length ac.old ≡ 5) × (length c.old ≡ 4) }
+// The coefficients of the filter that flattens x_lp.
+fn flatten(x_lp: &[f32]) -> [f32; 5]
+    requires { 5 ≤ length x_lp.now }
     ensures { result ≡ coefficients x_lp.now }
 {
-    celt_autocorr_core(x_lp, ac);
-    floor(ac);
-    lpc_core(c, ac);
-    fade_coefficients(c);
+    let mut ac = [0.0f32; 5];
+    celt_autocorr_core(x_lp, &mut ac);
+    floor(&mut ac);
+    let mut c = [0.0f32; 4];
+    lpc_core(&mut c, &ac);
+    fade_coefficients(&mut c);
     [
         c[0] + 0.8,
         c[1] + 0.8 * c[0],
@@ -357,16 +331,6 @@ fn flatten_in(x_lp: &[f32], ac: &mut [f32], c: &mut [f32]) -> [f32; 5]
         c[3] + 0.8 * c[2],
         0.8 * c[3],
     ]
-}
-
-// The same with places of its own.
-fn flatten(x_lp: &[f32]) -> [f32; 5]
-    requires { 5 ≤ length x_lp.now }
-    ensures { result ≡ coefficients x_lp.now }
-{
-    let mut ac = [0.0f32; 5];
-    let mut c = [0.0f32; 4];
-    flatten_in(x_lp, &mut ac, &mut c)
 }
 
 // `pitch_downsample` for lengths that fit.
@@ -380,18 +344,15 @@ fn pitch_downsample_core(x: &[f32], x_lp: &mut [f32])
 }
 
 // x at half the rate, with a flattened spectrum.
-pub fn pitch_downsample(x: &[f32], x_lp: &mut [f32]) -> u32
+pub fn pitch_downsample(x: &[f32], x_lp: &mut [f32]) -> Result<(), Refusal>
     ensures { Leaf (DownsampleFits (length x.now) (length x_lp.old))
         (result leaving x_lp.new)
-        (0 leaving downsampled x.now)
-        (5 leaving x_lp.old) }
+        (Ok tt leaving downsampled x.now)
+        (Err WrongLength leaving x_lp.old) }
 {
-    if x.len() != 1728 {
-        return 5;
-    }
-    if x_lp.len() != 864 {
-        return 5;
+    if x.len() != 1728 || x_lp.len() != 864 {
+        return Err(Refusal::WrongLength);
     }
     pitch_downsample_core(x, x_lp);
-    0
+    Ok(())
 }

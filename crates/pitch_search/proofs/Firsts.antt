@@ -5,7 +5,8 @@ use Rattle.rules.proofs.Common.{ℕ, Bool, true, false, List, refl, ap, ◌∙�
 use native.Mathlib.Omega.{arith}
 use Rattle.rules.specs.F32.{◌⊗◌, at, f32, one}
 use Rattle.rules.proofs.Loops.{kept}
-use Rattle.pitch_search.specs.Best.{Search, searched, start_norm, considered, slid, pitch_step, best, best_of}
+use Rattle.pitch_search.specs.declared.Search.{Search}
+use Rattle.pitch_search.specs.Best.{searched, start_norm, considered, slid, pitch_step, best, best_of}
 use Rattle.pitch_search.specs.Best.{first_of, second_of}
 use Rattle.pitch_search.specs.Laws.{FirstIsTried, SecondIsTried, FirstOfNone}
 

@@ -1,30 +1,14 @@
 -- `find_best_pitch` of pitch.rs: of some lags, the two with the largest normalised correlation.
-use Rattle.std.specs.Prelude.{◌+◌, ◌≤◌}
+use Rattle.std.specs.Prelude.{◌+◌, ◌≤◌, Result, Ok, Err}
 use Rattle.rules.specs.Common.{ℕ, cond, List, length, Float, lt, neg}
 use Rattle.rules.specs.Loop.{loop}
 use Rattle.rules.specs.F32.{◌⊕◌, ◌⊖◌, ◌⊗◌, at, f32, one}
+use Rattle.rules.specs.declared.refusal.Refusal.{Refusal}
 use Rattle.numbers.specs.Larger.{larger}
 use Rattle.pitch_search.specs.declared.Pitches.{Pitches}
+use Rattle.pitch_search.specs.declared.Search.{Search}
 
--- What the loop carries from lag to lag, by the Rust's names. A correlation is compared as a fraction: its square over
--- the energy of the numbers that it was taken of.
-pub record Search : Type 0 where
-  -- The best lag's squared correlation.
-  pub best_num : Float
-  -- The second best lag's.
-  pub second_best_num : Float
-  -- The best lag's energy.
-  pub best_den : Float
-  -- The second best lag's.
-  pub second_best_den : Float
-  -- The best lag.
-  pub best_pitch : ℕ
-  -- The second best lag.
-  pub second_best_pitch : ℕ
-  -- The energy at the lag that comes next.
-  pub y_sq_norm : Float
-
--- The same from its seven values.
+-- What the loop carries from lag to lag, from its seven values.
 abbrev pub searched : Float → Float → Float → Float → ℕ → ℕ → Float → Search
 searched bn sn bd sd bp sp norm =
     record {
@@ -75,23 +59,19 @@ best xcorr ys len =
     loop (length xcorr) (pitch_step xcorr ys len) (searched (neg one) (neg one) (f32 0) (f32 0) 0 1 (start_norm ys len))
 
 -- Rust: (best_pitch, second_best_pitch).
-abbrev pub best_of : List Float → List Float → ℕ → Pitches
-best_of xcorr ys len = let s = best xcorr ys len in Pitches.Best s.best_pitch s.second_best_pitch
-
--- The number that a call returns: 0, or the number of the refusal.
-abbrev pub pitches_number : Pitches → ℕ
-pitches_number (Pitches.Best p q) = 0
-pitches_number (Pitches.Refused n) = n
+abbrev pub best_of : List Float → List Float → ℕ → Result Pitches Refusal
+best_of xcorr ys len =
+    let s = best xcorr ys len in Ok (record { first = s.best_pitch; second = s.second_best_pitch })
 
 -- The best lag in an answer, or 0 if it was refused.
-abbrev pub first_of : Pitches → ℕ
-first_of (Pitches.Best p q) = p
-first_of (Pitches.Refused n) = 0
+abbrev pub first_of : Result Pitches Refusal → ℕ
+first_of (Ok pitches) = pitches.first
+first_of (Err refusal) = 0
 
 -- The second best lag in an answer, or 0 if it was refused.
-abbrev pub second_of : Pitches → ℕ
-second_of (Pitches.Best p q) = q
-second_of (Pitches.Refused n) = 0
+abbrev pub second_of : Result Pitches Refusal → ℕ
+second_of (Ok pitches) = pitches.second
+second_of (Err refusal) = 0
 
 -- The lengths fit: `ys` is long enough for the last lag.
 pub record BestFits (xcorr ys len : ℕ) : Type 0 where

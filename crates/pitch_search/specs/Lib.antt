@@ -1,4 +1,3 @@
 pub mod Best
 pub mod Inner
 pub mod Laws
-pub mod Private

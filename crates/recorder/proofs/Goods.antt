@@ -1,4 +1,5 @@
 -- What is written by calls that are accepted is a good recording. Assumes nothing.
+use Rattle.recording.specs.Verdict.{told_as}
 use Rattle.std.specs.Prelude.{◌+◌, ◌*◌, ◌/◌, ◌%◌, ◌^◌, ◌≤◌, ◌<◌, ◌∷◌, ◌++◌, ◌≡◌}
 use Rattle.rules.proofs.Common.{ℕ, zero, suc, Bool, true, false, cond, not}
 use Rattle.rules.proofs.Common.{List, [], refl}
@@ -19,7 +20,7 @@ use Rattle.checksum.proofs.Apart as checksum
 use Rattle.sides.specs.Sides.{number_of, of_number}
 use Rattle.sides.specs.declared.Side.{Side}
 use Rattle.sides.specs.declared.Side.TheVariants.{Left, Right}
-use Rattle.sides.specs.declared.Meant.TheVariants.{Means, Nothing}
+use Rattle.std.specs.Prelude.{Some, None}
 use Rattle.sheet.specs.Sheet.{record_bytes, records_of, trailer_of}
 use Rattle.sheet.specs.End.{from_four, good_record, entry_of}
 use Rattle.sheet.proofs.Digits.{four_mod}
@@ -28,7 +29,6 @@ use Rattle.sheet.proofs.Laying.{length_records, records_append}
 use Rattle.sheet.proofs.Back.{drop_bytes, record_back}
 use Rattle.recording.specs.Recording.{frames_of, entry, entries_from, head_for, chunk_for, recording_bytes, MOST, Good}
 use Rattle.recording.specs.Verdict.{was_heard, heard_in, is_size, how_many, verdict_of}
-use Rattle.recording.specs.declared.Verdict.TheVariants.{Told}
 use Rattle.recording.specs.Numbers.{side_at}
 use Rattle.recording.specs.declared.Front.{Front}
 use Rattle.recording.proofs.Cuts.{entries_append}
@@ -349,14 +349,14 @@ module _ (f : Front) (small : f.first < 2 ^ 32) where
               heard_is);
           noted = so.are ∙ ap (λ (hs : List Bool). records_of (number_of f.side) (entries_from f.first hs)) (sym
               heard_is);
-          told = ap verdict_of in_a_row ∙ as-it-is ∙ ap (λ (hs : List Bool). Told f (length hs) (how_many hs)) (sym
+          told = ap verdict_of in_a_row ∙ as-it-is ∙ ap (λ (hs : List Bool). told_as f (length hs) (how_many hs)) (sym
               heard_is);
         }
 
 -- ---- the beginning
 
 module _ (began first : ℕ) (lent numbers : List ℕ) where
-  begun_of : (t u : Bool) → (0 leaving numbers) ≡ begun_on (cond t (Means Left) (cond u (Means Right) Nothing)) began
+  begun_of : (t u : Bool) → (0 leaving numbers) ≡ begun_on (cond t (Some Left) (cond u (Some Right) None)) began
       first lent
       → numbers ≡ recorder_numbers (beginning (record { side = cond t Left Right; began = began; first = first }))
   begun_of true u e = ap (λ (p : ℕ × List ℕ). p.1) e

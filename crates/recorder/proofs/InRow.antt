@@ -1,23 +1,10 @@
 -- Records in a row, as a loop goes through them. Assumes nothing.
 use Rattle.std.specs.Prelude.{◌+◌, ◌-◌, ◌*◌, ◌%◌, ◌≤◌, ◌<◌, ◌≡◌}
-use Rattle.rules.proofs.Common.{ℕ, suc, Bool, true, false, List, sym, ◌∙◌, drop}
+use Rattle.rules.proofs.Common.{ℕ, suc, Bool, true, false, List, drop}
 use native.Mathlib.Nat.{add-zero}
 use native.Mathlib.Omega.{arith}
-use borrow.Author.Tests.{eq-eqb, ne_eqb}
 use lib.Seq.{drop-drop}
-use Rattle.sheet.specs.End.{from_four, good_record}
 use Rattle.recorder.specs.Recorder.{is_record, are_records}
-
--- a record, by what its first four bytes and the others say
-pub record_not : (side number : ℕ) (s : List ℕ) {n : ℕ} → n ≡ from_four s → (n ≡ number % 4294967296 → ⊥) → false ≡
-    is_record side number s
-unfolding is_record
-record_not side number s e h = rw (ne_eqb (from_four s) (number % 4294967296) (λ z. h (e ∙ z)))
-
-pub record_is : (side number : ℕ) (s : List ℕ) {n : ℕ} → n ≡ from_four s → n ≡ number % 4294967296 → {g : Bool} → g ≡
-    good_record side s → g ≡ is_record side number s
-unfolding is_record
-record_is side number s e h b = rw (eq-eqb (from_four s) (number % 4294967296) (sym e ∙ h)) b
 
 -- what is left after i of n records
 abbrev pub on_from : ℕ → ℕ → ℕ → List ℕ → ℕ → Bool

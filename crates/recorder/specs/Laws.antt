@@ -1,4 +1,5 @@
 -- What is claimed of a recorder. The proofs are in proofs/: Goods, GoesOn, Whole.
+use Rattle.recording.specs.Verdict.{told_as}
 use Rattle.std.specs.Prelude.{◌⊎◌, ◌+◌, ◌*◌, ◌/◌, ◌^◌, ◌≤◌, ◌<◌, ◌∷◌, ◌++◌, ◌≡◌}
 use Rattle.rules.specs.Common.{ℕ, List, [], length, get_or, take}
 use Rattle.rules.specs.Common.{drop}
@@ -11,7 +12,6 @@ use Rattle.recording.specs.Recording.{Recording, entries_from, recording_bytes, 
 use Rattle.recording.specs.Verdict.{heard_in, how_many, verdict_of}
 use Rattle.recording.specs.Numbers.{side_at}
 use Rattle.recording.specs.declared.Front.{Front}
-use Rattle.recording.specs.declared.Verdict.TheVariants.{Told}
 use Rattle.recorder.specs.Recorder.{beginning, skip_of, room_of, belonging, with_feed, next_rows, following}
 use Rattle.recorder.specs.Numbers.{begun_laid, more_laid, finish_laid}
 use Rattle.recorder.specs.declared.Recorder.{Recorder}
@@ -70,7 +70,8 @@ pub record IsGood (front : Front) (audio records file : List ℕ) : Type 0 where
   pub noted : records ≡ records_of (number_of front.side) (entries_from front.first (recording_of front audio records
       ).heard)
   pub told : verdict_of file
-      ≡ Told front (length (recording_of front audio records).heard) (how_many (recording_of front audio records).heard)
+      ≡ told_as front (length (recording_of front audio records).heard)
+      (how_many (recording_of front audio records).heard)
 
 -- head, audio, what is between, records and trailer in a row are such a file: no calls that are accepted write another
 abbrev pub AlwaysGood : Type 0

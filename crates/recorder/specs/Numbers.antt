@@ -1,11 +1,10 @@
 -- A recorder in numbers, as a host holds it: eight of them. What is returned, and what the buffers then hold.
-use Rattle.std.specs.Prelude.{◌∷◌}
+use Rattle.std.specs.Prelude.{Option, Some, None, ◌∷◌}
 use Rattle.rules.specs.Common.{ℕ, not, List, [], eqb, length, get_or}
 use Rattle.rules.specs.Leaf.{◌leaving◌}
 use Rattle.rules.specs.Refusals.{◌when◌, refusing, wrong}
 use Rattle.sides.specs.Sides.{number_of, of_number}
-use Rattle.sides.specs.declared.Meant.{Meant}
-use Rattle.sides.specs.declared.Meant.TheVariants.{Means, Nothing}
+use Rattle.sides.specs.declared.Side.{Side}
 use Rattle.sheet.specs.Sheet.{trailer_of}
 use Rattle.recording.specs.Recording.{head_for, chunk_for}
 use Rattle.recording.specs.Numbers.{word, side_at}
@@ -29,14 +28,14 @@ recorder_numbers r =
 
 -- ---- begin
 
-abbrev pub begun_on : Meant → ℕ → ℕ → List ℕ → ℕ × List ℕ
-begun_on (Means side) began first ns = 0 leaving recorder_numbers (beginning (record {
+abbrev pub begun_on : Option Side → ℕ → ℕ → List ℕ → ℕ × List ℕ
+begun_on (Some side) began first ns = 0 leaving recorder_numbers (beginning (record {
   side = side;
   began = began;
   first =
       first;
 }))
-begun_on Nothing began first ns = 53 leaving ns
+begun_on None began first ns = 53 leaving ns
 
 unfoldable pub begun_laid : ℕ → ℕ → ℕ → List ℕ → ℕ × List ℕ
 begun_laid side began first ns = refusing (5 when not (eqb (length ns) 8) ∷ []) (λ n. n leaving ns) (begun_on (of_number

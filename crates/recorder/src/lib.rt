@@ -1,25 +1,26 @@
 // A recording while it is being made. For each feed of a bench the recorder says which of its bytes belong to the
 // recording, and it carries on what the head, the seal and the trailer say at the end. A host holds it as eight
 // numbers.
+// Stays: a host's slices, whose lengths the calls test, and where the audio is as two numbers: the C interface.
 #![tactic(auto)]
 
 mod records;
 
-ghost use Rattle.std.specs.Prelude.{◌≡◌, ◌%◌, min, length};
+ghost use Rattle.std.specs.Prelude.{◌≡◌, ◌%◌, ◌≤◌, ◌^◌, ◌<◌, length};
 ghost use Rattle.rules.specs.Leaf.{◌leaving◌};
+ghost use Rattle.rules.specs.Refusal.{told};
 ghost use Rattle.rules.specs.Refusals.{refusing};
-ghost use Rattle.sides.specs.Sides.{number_of};
-ghost use Rattle.sheet.specs.Sheet.{trailer_of};
-ghost use Rattle.recording.specs.Recording.{head_for, chunk_for};
-ghost use Rattle.recording.specs.Numbers.{side_at};
-ghost use Rattle.recorder.specs.Recorder.{beginning, skip_of, room_of, too_long, more_rows, closing_of, close_rows};
-ghost use Rattle.recorder.specs.Recorder.{next_first, following, next_rows};
+ghost use Rattle.recorder.specs.Recorder.{beginning, skip_of, room_of, belonging, start_of, too_long, more_rows};
+ghost use Rattle.recorder.specs.Recorder.{closing_of};
+ghost use Rattle.recorder.specs.Recorder.{close_rows, next_first, following, next_rows};
 ghost use Rattle.recorder.specs.Numbers.{recorder_in, recorder_numbers, begun_laid, more_laid, closing_laid, next_laid};
 ghost use Rattle.recorder.specs.Numbers.{finish_laid};
-ghost use Rattle.recorder.specs.Private.{Found, with_audio, Within, Closes};
+ghost use Rattle.recorder.specs.Private.{with_audio, Within};
 
 use recording::Front;
-use sides::{Meant, Side};
+use recording::numbers::{side_at, word};
+use rules::Refusal;
+use sides::Side;
 
 // A recording while it is being made.
 #[derive(Clone, Copy)]
@@ -36,60 +37,40 @@ pub struct Recorder {
     pub sum: u32,
 }
 
-// A part of some bytes: where it begins, and how long it is.
-#[derive(Drop)]
-struct Part {
-    start: usize,
-    size: usize,
-}
-
 // ---- in numbers
 
-fn word(number: u64) -> u32
-    ensures { result ≡ number % 4294967296 }
-{
-    (number % 4294967296) as u32
-}
-
-fn side_at(number: u64) -> Side
-    ensures { result ≡ side_at number }
-{
-    if number == 0 { Side::Left } else { Side::Right }
-}
-
-fn recorder_in(numbers: &[u64]) -> Recorder
-    requires { length numbers.now ≡ 8 }
+fn recorder_in(numbers: &[u64; 8]) -> Recorder
     ensures { result ≡ recorder_in numbers.now }
 {
-    let front = Front {
-        side: side_at(numbers[0]),
-        began: numbers[1],
-        first: word(numbers[2]),
-    };
+    let [side, began, first, taken, size, crc, count, sum] = *numbers;
     Recorder {
-        front,
-        taken: word(numbers[3]),
-        size: word(numbers[4]),
-        crc: word(numbers[5]),
-        count: word(numbers[6]),
-        sum: word(numbers[7]),
+        front: Front {
+            side: side_at(side),
+            began,
+            first: word(first),
+        },
+        taken: word(taken),
+        size: word(size),
+        crc: word(crc),
+        count: word(count),
+        sum: word(sum),
     }
 }
 
-fn put(numbers: &mut [u64], recorder: Recorder)
-    requires { length numbers.old ≡ 8 }
-    ensures { numbers.new ≡ recorder_numbers recorder }
+fn numbers_of(recorder: Recorder) -> [u64; 8]
+    ensures { result ≡ recorder_numbers recorder }
 {
     let front = recorder.front;
-    let side = front.side;
-    numbers[0] = sides::number(side) as u64;
-    numbers[1] = front.began;
-    numbers[2] = front.first as u64;
-    numbers[3] = recorder.taken as u64;
-    numbers[4] = recorder.size as u64;
-    numbers[5] = recorder.crc as u64;
-    numbers[6] = recorder.count as u64;
-    numbers[7] = recorder.sum as u64;
+    [
+        front.side.number() as u64,
+        front.began,
+        front.first as u64,
+        recorder.taken as u64,
+        recorder.size as u64,
+        recorder.crc as u64,
+        recorder.count as u64,
+        recorder.sum as u64,
+    ]
 }
 
 // ---- begin
@@ -107,27 +88,20 @@ fn begun(front: Front) -> Recorder
     }
 }
 
-// A recording of a side begins. Another length than eight is refused with 5, and a number that means no side with 53.
-pub fn begin(numbers: &mut [u64], side: u32, began: u64, first: u32) -> u32
-    ensures { (result leaving numbers.new) ≡ begun_laid side began first numbers.old }
+// A recording of a side begins. Another length than eight is refused, and so is a number that means no side.
+#[tactic(auto, unfolding(crate::specs::Numbers::begun_laid))]
+pub fn begin(numbers: &mut [u64], side: u32, began: u64, first: u32) -> Result<(), Refusal>
+    ensures { (told result leaving numbers.new) ≡ begun_laid side began first numbers.old }
 {
     if numbers.len() != 8 {
-        return 5;
+        return Err(Refusal::WrongLength);
     }
-    match sides::of_number(side) {
-        Meant::Means(known) => {
-            put(
-                numbers,
-                begun(Front {
-                    side: known,
-                    began,
-                    first,
-                }),
-            );
-            0
-        }
-        Meant::Nothing => 53,
-    }
+    let Some(side) = Side::of_number(side) else {
+        return Err(Refusal::SealSide);
+    };
+    let recorder = begun(Front { side, began, first });
+    numbers.copy_from_slice(&numbers_of(recorder));
+    Ok(())
 }
 
 // ---- what a feed gave
@@ -136,81 +110,61 @@ pub fn begin(numbers: &mut [u64], side: u32, began: u64, first: u32) -> u32
 fn skip_of(recorder: Recorder) -> usize
     ensures { result ≡ skip_of recorder }
 {
-    if recorder.front.first != 0 {
-        return 0;
+    if recorder.front.first as u64 + recorder.count as u64 == 0 {
+        960
+    } else {
+        0
     }
-    if recorder.count != 0 {
-        return 0;
-    }
-    960
 }
 
 // How many bytes of audio there still can be.
 fn room_of(recorder: Recorder, taken: u32) -> usize
     ensures { result ≡ room_of recorder taken }
 {
-    let most = 2 * (recorder.taken as usize + taken as usize);
-    let size = recorder.size as usize;
-    if most < size {
-        return 0;
-    }
-    most - size
+    (2 * (recorder.taken as usize + taken as usize)).saturating_sub(recorder.size as usize)
 }
 
-fn lesser(a: usize, b: usize) -> usize
-    ensures { result ≡ min a b }
+// Where the bytes begin that belong to the recording, of so many.
+fn start_of(recorder: Recorder, bytes: usize) -> usize
+    ensures { (result ≡ start_of recorder bytes) × (result ≤ bytes) }
 {
-    if a < b { a } else { b }
+    skip_of(recorder).min(bytes)
 }
 
-// The part of so many bytes that belongs to the recording.
-fn part_of(recorder: Recorder, taken: u32, bytes: usize) -> Part
-    ensures { Found recorder taken bytes result }
+// The bytes that belong to the recording.
+fn belonging(recorder: Recorder, taken: u32, cleaned: &[u8]) -> &[u8]
+    ensures { result.now ≡ belonging recorder taken cleaned.now }
 {
-    let start = lesser(skip_of(recorder), bytes);
-    Part {
-        start,
-        size: lesser(room_of(recorder, taken), bytes - start),
-    }
+    let rest = &cleaned[start_of(recorder, cleaned.len())..];
+    &rest[..room_of(recorder, taken).min(rest.len())]
 }
 
 // Whether the recording would be longer than a recording can be.
 fn is_too_long(recorder: Recorder, taken: u32, frames: usize) -> bool
     ensures { result ≡ too_long recorder taken frames }
 {
-    if 2129735520 < recorder.taken as u64 + taken as u64 {
-        return true;
-    }
-    if 4436950 < frames {
-        return true;
-    }
-    4436950 < recorder.count as usize + frames
+    2129735520 < recorder.taken as u64 + taken as u64
+        || 4436950 < frames
+        || 4436950 < recorder.count as usize + frames
 }
 
-// What refuses a feed's bytes and records; 0 if nothing does.
-fn refusal(recorder: Recorder, taken: u32, cleaned: &[u8], records: &[u8]) -> u32
-    ensures { result ≡ refusing (more_rows recorder taken cleaned.now records.now) (λ n. n) 0 }
+// What refuses a feed's bytes and records.
+fn tried(recorder: Recorder, taken: u32, cleaned: &[u8], records: &[u8]) -> Result<(), Refusal>
+    ensures { told result ≡ refusing (more_rows recorder taken cleaned.now records.now) (λ n. n) 0 }
 {
     let frames = records.len() / 8;
-    if records.len() % 8 != 0 {
-        return 5;
-    }
-    if cleaned.len() % 960 != 0 {
-        return 5;
-    }
-    if cleaned.len() / 960 != frames {
-        return 5;
+    if records.len() % 8 != 0 || cleaned.len() % 960 != 0 || cleaned.len() / 960 != frames {
+        return Err(Refusal::WrongLength);
     }
     if is_too_long(recorder, taken, frames) {
-        return 67;
+        return Err(Refusal::RecorderTooLong);
     }
     let front = recorder.front;
-    let side = front.side;
     let number = front.first as u64 + recorder.count as u64;
-    if !records::are_records(records, sides::number(side), number, frames) {
-        return 68;
+    if !records::are_records(records, front.side.number(), number, frames) {
+        return Err(Refusal::RecorderRecords);
     }
-    0
+    Ok(())
 }
 
 // With these bytes of audio, and these records.
@@ -218,52 +172,39 @@ fn recorded(recorder: Recorder, taken: u32, audio: &[u8], records: &[u8]) -> Rec
     requires { Within recorder taken (length audio.now) (length records.now) }
     ensures { result ≡ with_audio recorder taken audio.now records.now }
 {
-    let front = recorder.front;
-    let passed = recorder.sum as u64 + records::total(records);
     Recorder {
-        front,
+        front: recorder.front,
         taken: recorder.taken + taken,
         size: (recorder.size as usize + audio.len()) as u32,
         crc: checksum::crc32(recorder.crc, audio),
         count: (recorder.count as usize + records.len() / 8) as u32,
-        sum: word(passed),
+        sum: recording::sum_with(recorder.sum, records),
     }
 }
 
 // What one feed gave: how many samples of the stream it took in (0 of silence), its bytes and its records. `part` then
 // says which of the bytes belong to the recording: where they begin, and how many they are.
+#[tactic(auto, unfolding(crate::specs::Numbers::more_laid))]
 pub fn more(
     numbers: &mut [u64],
     part: &mut [u64],
     taken: u32,
     cleaned: &[u8],
     records: &[u8],
-) -> u32
-    ensures { (result leaving numbers.new leaving part.new)
+) -> Result<(), Refusal>
+    ensures { (told result leaving numbers.new leaving part.new)
         ≡ more_laid taken cleaned.now records.now numbers.old part.old }
 {
-    if numbers.len() != 8 {
-        return 5;
-    }
-    if part.len() != 2 {
-        return 5;
-    }
-    let recorder = recorder_in(numbers);
-    let refused = refusal(recorder, taken, cleaned, records);
-    if refused != 0 {
-        return refused;
-    }
-    let found = part_of(recorder, taken, cleaned.len());
-    let start = found.start;
-    let size = found.size;
-    let end = start + size;
-    put(
-        numbers,
-        recorded(recorder, taken, &cleaned[start..end], records),
-    );
-    part[0] = start as u64;
-    part[1] = size as u64;
-    0
+    let (Some(lent), 2) = (numbers.as_array(), part.len()) else {
+        return Err(Refusal::WrongLength);
+    };
+    let recorder = recorder_in(lent);
+    tried(recorder, taken, cleaned, records)?;
+    let start = start_of(recorder, cleaned.len());
+    let audio = belonging(recorder, taken, cleaned);
+    numbers.copy_from_slice(&numbers_of(recorded(recorder, taken, audio, records)));
+    part.copy_from_slice(&[start as u64, audio.len() as u64]);
+    Ok(())
 }
 
 // ---- its end
@@ -271,141 +212,104 @@ pub fn more(
 fn closing_of(recorder: Recorder) -> u64
     ensures { result ≡ closing_of recorder }
 {
-    let taken = recorder.taken as u64;
-    if taken == 0 {
-        return 0;
+    match recorder.taken as u64 {
+        0 => 0,
+        taken => 480 * ((taken + 479) / 480 + 1) - taken,
     }
-    480 * ((taken + 479) / 480 + 1) - taken
 }
 
 // How many samples of silence the bench must still be fed, so that all that was taken in comes out.
-pub fn closing(silence: &mut [u64], numbers: &[u64]) -> u32
-    ensures { (result leaving silence.new) ≡ closing_laid numbers.now silence.old }
+#[tactic(auto, unfolding(crate::specs::Numbers::closing_laid))]
+pub fn closing(silence: &mut [u64], numbers: &[u64]) -> Result<(), Refusal>
+    ensures { (told result leaving silence.new) ≡ closing_laid numbers.now silence.old }
 {
-    if silence.len() != 1 {
-        return 5;
-    }
-    if numbers.len() != 8 {
-        return 5;
-    }
+    let (1, Some(numbers)) = (silence.len(), numbers.as_array()) else {
+        return Err(Refusal::WrongLength);
+    };
     silence[0] = closing_of(recorder_in(numbers));
-    0
+    Ok(())
 }
 
-// What refuses to close it; 0 if nothing does.
-fn close_refusal(recorder: Recorder) -> u32
-    ensures { result ≡ refusing (close_rows recorder) (λ n. n) 0 }
+// What refuses to close it.
+fn closes(recorder: Recorder) -> Result<(), Refusal>
+    ensures { told result ≡ refusing (close_rows recorder) (λ n. n) 0 }
 {
     if !recording::is_size(recorder.size) {
-        return 69;
+        return Err(Refusal::RecorderSize);
     }
     if recorder.count as u64 != recording::frames_of(recorder.front.first, recorder.size) {
-        return 70;
+        return Err(Refusal::RecorderFrames);
     }
-    0
+    Ok(())
 }
 
 fn next_first(recorder: Recorder) -> u32
     ensures { result ≡ next_first recorder }
 {
-    word(recorder.front.first as u64 + recorder.count as u64)
+    recorder.front.first.wrapping_add(recorder.count)
 }
 
-// What refuses to go on in a next recording; 0 if nothing does.
-fn next_refusal(recorder: Recorder) -> u32
-    ensures { result ≡ refusing (next_rows recorder) (λ n. n) 0 }
+// What refuses to go on in a next recording.
+fn goes_on(recorder: Recorder) -> Result<(), Refusal>
+    ensures { told result ≡ refusing (next_rows recorder) (λ n. n) 0 }
 {
-    let refused = close_refusal(recorder);
-    if refused != 0 {
-        return refused;
+    closes(recorder)?;
+    if recorder.size % 960 != 0 || next_first(recorder) == 0 {
+        return Err(Refusal::RecorderNoCut);
     }
-    if recorder.size % 960 != 0 {
-        return 71;
-    }
-    if next_first(recorder) == 0 {
-        return 71;
-    }
-    0
+    Ok(())
 }
 
+#[tactic(auto, unfolding(crate::specs::Recorder::following))]
 fn following(recorder: Recorder, began: u64) -> Recorder
     ensures { result ≡ following recorder began }
 {
-    let front = recorder.front;
-    let side = front.side;
-    let written = recorder.size / 2;
-    let mut taken = 0;
-    if written < recorder.taken {
-        taken = recorder.taken - written;
-    }
+    let front = Front {
+        side: recorder.front.side,
+        began,
+        first: next_first(recorder),
+    };
     Recorder {
-        front: Front {
-            side,
-            began,
-            first: next_first(recorder),
-        },
-        taken,
-        size: 0,
-        crc: 0,
-        count: 0,
-        sum: 0,
+        taken: recorder.taken.saturating_sub(recorder.size / 2),
+        ..begun(front)
     }
 }
 
 // The recording ends after a frame, and the bench goes on in the next one.
-pub fn next(numbers: &mut [u64], began: u64) -> u32
-    ensures { (result leaving numbers.new) ≡ next_laid began numbers.old }
+#[tactic(auto, unfolding(crate::specs::Numbers::next_laid))]
+pub fn next(numbers: &mut [u64], began: u64) -> Result<(), Refusal>
+    ensures { (told result leaving numbers.new) ≡ next_laid began numbers.old }
 {
-    if numbers.len() != 8 {
-        return 5;
-    }
-    let recorder = recorder_in(numbers);
-    let refused = next_refusal(recorder);
-    if refused != 0 {
-        return refused;
-    }
-    put(numbers, following(recorder, began));
-    0
-}
-
-// The head, what is between the audio and the records, and the trailer.
-fn lay(head: &mut [u8], chunk: &mut [u8], trailer: &mut [u8], recorder: Recorder)
-    requires { Closes recorder (length head.old) (length chunk.old) (length trailer.old) }
-    ensures { (head.new ≡ head_for recorder.front recorder.size)
-        × (chunk.new ≡ chunk_for recorder.front recorder.size recorder.crc)
-        × (trailer.new ≡ trailer_of recorder.count (number_of recorder.front.side) recorder.sum) }
-{
-    let front = recorder.front;
-    let side = front.side;
-    let number = sides::number(side) as u32;
-    recording::writer::head(head, number, front.began, front.first, recorder.size);
-    recording::writer::chunk(chunk, number, front.first, recorder.size, recorder.crc);
-    sheet::parts::trailer(trailer, number, recorder.count as u64, recorder.sum as u64);
+    let Some(lent) = numbers.as_array() else {
+        return Err(Refusal::WrongLength);
+    };
+    let recorder = recorder_in(lent);
+    goes_on(recorder)?;
+    numbers.copy_from_slice(&numbers_of(following(recorder, began)));
+    Ok(())
 }
 
 // The end of the recording: its head of 76 bytes, the 32 bytes between the audio and the records, and its trailer of 16
 // bytes.
-pub fn finish(head: &mut [u8], chunk: &mut [u8], trailer: &mut [u8], numbers: &[u64]) -> u32
-    ensures { (result leaving head.new leaving chunk.new leaving trailer.new)
+#[tactic(auto, unfolding(crate::specs::Numbers::finish_laid))]
+pub fn finish(
+    head: &mut [u8],
+    chunk: &mut [u8],
+    trailer: &mut [u8],
+    numbers: &[u64],
+) -> Result<(), Refusal>
+    ensures { (told result leaving head.new leaving chunk.new leaving trailer.new)
         ≡ finish_laid numbers.now head.old chunk.old trailer.old }
 {
-    if numbers.len() != 8 {
-        return 5;
-    }
-    if head.len() != 76 {
-        return 5;
-    }
-    if chunk.len() != 32 {
-        return 5;
-    }
-    if trailer.len() != 16 {
-        return 5;
-    }
+    let (Some(numbers), 76, 32, 16) = (numbers.as_array(), head.len(), chunk.len(), trailer.len())
+    else {
+        return Err(Refusal::WrongLength);
+    };
     let recorder = recorder_in(numbers);
-    let refused = close_refusal(recorder);
-    if refused != 0 {
-        return refused;
-    }
-    lay(head, chunk, trailer, recorder);
-    0
+    closes(recorder)?;
+    let front = recorder.front;
+    head.copy_from_slice(&recording::head_for(front, recorder.size));
+    chunk.copy_from_slice(&recording::chunk_for(front, recorder.size, recorder.crc));
+    trailer.copy_from_slice(&recording::trailer_of(front.side, recorder.count, recorder.sum));
+    Ok(())
 }

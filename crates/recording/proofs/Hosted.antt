@@ -1,4 +1,6 @@
 -- What a host is told by its calls is what the file is. Assumes nothing.
+use Rattle.std.specs.Prelude.{Ok, Err}
+use Rattle.recording.specs.Verdict.{told_as, Verdict}
 use Rattle.std.specs.Prelude.{◌&&◌, ◌∷◌, ◌≡◌}
 use Rattle.rules.proofs.Common.{ℕ, Bool, true, false, cond, not, List, [], refl, sym, ap, ◌∙◌, subst}
 use Rattle.rules.proofs.Common.{ltb, length, drop}
@@ -19,16 +21,14 @@ use Rattle.recording.specs.Laws.{after_calls, AllBytes, held_after, host_told, J
 use Rattle.recording.specs.Laws.{Accepted, HostOnly}
 use Rattle.recording.specs.declared.Front.{Front}
 use Rattle.recording.specs.declared.Judge.{Judge}
-use Rattle.recording.specs.declared.Verdict.{Verdict}
-use Rattle.recording.specs.declared.Verdict.TheVariants.{Told, Not}
-use Rattle.recording.proofs.InNumbers.{laid_done}
 use Rattle.recording.proofs.Told.{told_all, told_only}
 use Rattle.recording.proofs.Calls.{Fits, kept, begun_fits, run_fits, calls_told}
 
 -- a judge laid into buffers of the right lengths
 laid : (j : Judge) (ns held : List ℕ) → length ns ≡ 11 → length held ≡ 76
     → judge_laid j ns held ≡ (0 leaving judge_numbers j leaving j.held)
-laid j ns held n h = sym (laid_done j ns held n h refl refl refl)
+unfolding judge_laid
+laid j ns held n h = rw (eq-eqb (length ns) 11 n, eq-eqb (length held) 76 h)
 
 on_held : (j : Judge) (parts : List (List ℕ)) → Fits j → AllBytes parts
     → held_after (judge_numbers j) j.held parts ≡ (judge_numbers (after_calls j parts), (after_calls j parts).held)
@@ -68,8 +68,8 @@ host_all r parts ns held out good lent b e =
 
 -- no part has number 0
 none_is_zero : (t u v w x y : Bool) (f : Front) (n h : ℕ)
-    → cond t (Not 61) (cond u (Not 62)
-    (cond v (Not 63) (cond w (Not 64) (cond x (Not 65) (cond y (Not 66) (Told f n h)))))) ≡ Not 0 → ⊥
+    → cond t (Err 61) (cond u (Err 62)
+    (cond v (Err 63) (cond w (Err 64) (cond x (Err 65) (cond y (Err 66) (told_as f n h)))))) ≡ Err 0 → ⊥
 none_is_zero true u v w x y f n h e = absurd (let z : ◌≡◌ {A = ℕ} 61 0 = cc in omega arith)
 none_is_zero false true v w x y f n h e = absurd (let z : ◌≡◌ {A = ℕ} 62 0 = cc in omega arith)
 none_is_zero false false true w x y f n h e = absurd (let z : ◌≡◌ {A = ℕ} 63 0 = cc in omega arith)
@@ -78,7 +78,7 @@ none_is_zero false false false false true y f n h e = absurd (let z : ◌≡◌ 
 none_is_zero false false false false false true f n h e = absurd (let z : ◌≡◌ {A = ℕ} 66 0 = cc in omega arith)
 none_is_zero false false false false false false f n h e = absurd (let z : ◌≡◌ {A = ℕ} 0 1 = cc in omega arith)
 
-not_zero : (file : List ℕ) → verdict_of file ≡ Not 0 → ⊥
+not_zero : (file : List ℕ) → verdict_of file ≡ Err 0 → ⊥
 unfolding verdict_of file_faults
 not_zero file e =
     let size = size_in file in
@@ -97,7 +97,10 @@ not_zero file e =
 by_verdict : (file out told : List ℕ) (v : Verdict) → Bytes file → verdict_of file ≡ v
     → (0 leaving told) ≡ told_in v out
     → Accepted file told (said_by file)
-by_verdict file out told (Told f n h) b e a =
+by_verdict file out told (Ok t) b e a =
+    let f = t.front in
+    let n = t.frames in
+    let h = t.heard in
     let is = told_only file f n h b (sym e) in
     let list : told ≡ number_of f.side ∷ f.began ∷ f.first ∷ n ∷ h ∷ [] = ap (λ (p : ℕ × List ℕ). p.1) a in
     let r = said_by file in
@@ -110,9 +113,9 @@ by_verdict file out told (Told f n h) b e a =
           ∙ ap (λ (m : ℕ). number_of r.front.side ∷ r.front.began ∷ r.front.first ∷ length r.heard ∷ m ∷ [])
           is.counts;
     }
-by_verdict file out told (Not n) b e a =
+by_verdict file out told (Err n) b e a =
     let zero_it : 0 ≡ n = ap (λ (p : ℕ × List ℕ). p.0) a in
-    absurd (not_zero file (e ∙ ap Not (sym zero_it)))
+    absurd (not_zero file (e ∙ ap Err (sym zero_it)))
 
 pub host_only : HostOnly
 host_only parts ns held out told lent b bytes e =

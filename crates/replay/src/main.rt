@@ -3,7 +3,7 @@
 // and so do both zeros.
 #![tactic(auto)]
 
-ghost use Rattle.std.specs.Prelude.{◌≡◌, ◌+◌, ◌<◌, ◌≤◌, ◌^◌, length};
+ghost use Rattle.std.specs.Prelude.{◌+◌, ◌<◌, ◌≤◌, ◌^◌, length};
 
 use export::{of_bands, of_pitch};
 use std::io;
@@ -15,25 +15,17 @@ const ROOM: usize = 2048;
 // The longest input, in bytes.
 const SPACE: usize = 400000;
 
-// A byte as a number of 32 bits.
-fn wide(x: u8) -> u32
-    ensures { result < 256 }
-{
-    x as u32
-}
-
 // Word i of the list, the low byte first; 0 after its end.
 fn word(bytes: &[u8], i: usize) -> u32 {
     if bytes.len() / 4 <= i {
         return 0;
     }
     let at = 4 * i;
-    let low = wide(bytes[at]) + 256 * wide(bytes[at + 1]);
-    let high = wide(bytes[at + 2]) + 256 * wide(bytes[at + 3]);
-    low + 65536 * high
+    u32::from_le_bytes([bytes[at], bytes[at + 1], bytes[at + 2], bytes[at + 3]])
 }
 
 // The float with these bits; any NaN gives the one NaN.
+#[tactic(auto, using(numbers::proofs::NoNan::real_pattern))]
 fn float(bits: u32) -> f32 {
     if bits % 0x8000_0000 > 0x7f80_0000 {
         return 0.0 / 0.0;
@@ -50,11 +42,7 @@ fn number(bytes: &[u8], i: usize) -> usize {
 fn size(bytes: &[u8], at: usize) -> usize
     ensures { result ≤ 2048 }
 {
-    let n = number(bytes, at);
-    if ROOM < n {
-        return ROOM;
-    }
-    n
+    number(bytes, at).min(ROOM)
 }
 
 // The place after the list at this place.
@@ -65,26 +53,14 @@ fn after(bytes: &[u8], at: usize) -> usize
     at + 1 + size(bytes, at)
 }
 
-// The same if list i of `lists` is there.
-fn skip(bytes: &[u8], at: usize, i: usize, lists: usize) -> usize
-    requires { at < 2 ^ 62 }
-    ensures { (at ≤ result) × (result ≤ at + 2049) }
-{
-    if i < lists {
-        return after(bytes, at);
-    }
-    at
-}
-
 // The place after the lists at this place. Their number comes before them; at most four are skipped.
 fn behind(bytes: &[u8], at: usize) -> usize
     requires { at < 2 ^ 40 }
     ensures { (at < result) × (result < at + 16384) }
 {
-    let lists = number(bytes, at);
     let mut end = at + 1;
-    for i in 0..4 {
-        end = skip(bytes, end, i, lists);
+    for i in 0..number(bytes, at).min(4) {
+        end = after(bytes, end);
     }
     end
 }
@@ -93,17 +69,14 @@ fn behind(bytes: &[u8], at: usize) -> usize
 fn load(to: &mut [f32], bytes: &[u8], at: usize)
     requires { (at < 2 ^ 62) × (length to.old ≤ 2048) }
 {
-    for i in 0..to.len() {
-        to[i] = float(word(bytes, at + i));
+    for (i, x) in to.iter_mut().enumerate() {
+        *x = float(word(bytes, at + i));
     }
 }
 
 // Whether two floats are equal, or both NaN.
 fn alike(x: f32, y: f32) -> bool {
-    if x != x {
-        return y != y;
-    }
-    x == y
+    x == y || x != x && y != y
 }
 
 // Whether the list at this place is xs.
@@ -113,8 +86,8 @@ fn same(xs: &[f32], bytes: &[u8], at: usize) -> bool
     if number(bytes, at) != xs.len() {
         return false;
     }
-    for i in 0..xs.len() {
-        if !alike(xs[i], float(word(bytes, at + 1 + i))) {
+    for (i, x) in xs.iter().enumerate() {
+        if !alike(*x, float(word(bytes, at + 1 + i))) {
             return false;
         }
     }
@@ -140,16 +113,22 @@ fn call(leaf: u32, a: &mut [f32], b: &[f32], c: &[f32], n: usize) -> u32 {
 }
 
 // Copies the list at this place to the front of the room for it.
-fn fill(to: &mut [f32], bytes: &[u8], at: usize)
-    requires { (at < 2 ^ 61) × (length to.old ≡ 2048) }
+fn fill(to: &mut [f32; ROOM], bytes: &[u8], at: usize)
+    requires { at < 2 ^ 61 }
 {
     let n = size(bytes, at);
     load(&mut to[0..n], bytes, at + 1);
 }
 
 // Copies the first three lists of the record at this place.
-fn fill_three(bytes: &[u8], at: usize, a: &mut [f32], b: &mut [f32], c: &mut [f32])
-    requires { (at < 2 ^ 39) × (length a.old ≡ 2048) × (length b.old ≡ 2048) × (length c.old ≡ 2048) }
+fn fill_three(
+    bytes: &[u8],
+    at: usize,
+    a: &mut [f32; ROOM],
+    b: &mut [f32; ROOM],
+    c: &mut [f32; ROOM],
+)
+    requires { at < 2 ^ 39 }
 {
     let second = after(bytes, at + 2);
     let third = after(bytes, second);
@@ -159,8 +138,8 @@ fn fill_three(bytes: &[u8], at: usize, a: &mut [f32], b: &mut [f32], c: &mut [f3
 }
 
 // Makes the call of the record at this place, of a function that answers with floats.
-fn call_in(bytes: &[u8], at: usize, a: &mut [f32], b: &[f32], c: &[f32]) -> u32
-    requires { (at < 2 ^ 39) × (length a.old ≡ 2048) × (length b.now ≡ 2048) × (length c.now ≡ 2048) }
+fn call_in(bytes: &[u8], at: usize, a: &mut [f32; ROOM], b: &[f32; ROOM], c: &[f32; ROOM]) -> u32
+    requires { at < 2 ^ 39 }
 {
     let second = after(bytes, at + 2);
     let third = after(bytes, second);
@@ -178,20 +157,23 @@ fn call_in(bytes: &[u8], at: usize, a: &mut [f32], b: &[f32], c: &[f32]) -> u32
 }
 
 // Whether the record at this place expects this number and this answer.
-fn expects(bytes: &[u8], at: usize, got: u32, a: &[f32]) -> bool
-    requires { (at < 2 ^ 39) × (length a.now ≡ 2048) }
+fn expects(bytes: &[u8], at: usize, got: u32, a: &[f32; ROOM]) -> bool
+    requires { at < 2 ^ 39 }
 {
     let expected = behind(bytes, at + 1);
-    if got != word(bytes, expected + 2) {
-        return false;
-    }
     let n = size(bytes, at + 2);
-    same(&a[0..n], bytes, expected + 3)
+    got == word(bytes, expected + 2) && same(&a[0..n], bytes, expected + 3)
 }
 
 // Whether the call of the record at this place agrees, with lent buffers.
-fn floats_in(bytes: &[u8], at: usize, a: &mut [f32], b: &mut [f32], c: &mut [f32]) -> bool
-    requires { (at < 2 ^ 39) × (length a.old ≡ 2048) × (length b.old ≡ 2048) × (length c.old ≡ 2048) }
+fn floats_in(
+    bytes: &[u8],
+    at: usize,
+    a: &mut [f32; ROOM],
+    b: &mut [f32; ROOM],
+    c: &mut [f32; ROOM],
+) -> bool
+    requires { at < 2 ^ 39 }
 {
     fill_three(bytes, at, a, b, c);
     let got = call_in(bytes, at, a, b, c);
@@ -202,15 +184,21 @@ fn floats_in(bytes: &[u8], at: usize, a: &mut [f32], b: &mut [f32], c: &mut [f32
 fn replay_floats(bytes: &[u8], at: usize) -> bool
     requires { at < 2 ^ 39 }
 {
-    let mut a = [0.0f32; 2048];
-    let mut b = [0.0f32; 2048];
-    let mut c = [0.0f32; 2048];
+    let mut a = [0.0f32; ROOM];
+    let mut b = [0.0f32; ROOM];
+    let mut c = [0.0f32; ROOM];
     floats_in(bytes, at, &mut a, &mut b, &mut c)
 }
 
 // Makes the call of the record at this place, of find_best_pitch.
-fn best_in(bytes: &[u8], at: usize, p: &mut [u64], x: &mut [f32], y: &mut [f32]) -> u32
-    requires { (at < 2 ^ 39) × (length p.old ≡ 2) × (length x.old ≡ 2048) × (length y.old ≡ 2048) }
+fn best_in(
+    bytes: &[u8],
+    at: usize,
+    p: &mut [u64; 2],
+    x: &mut [f32; ROOM],
+    y: &mut [f32; ROOM],
+) -> u32
+    requires { at < 2 ^ 39 }
 {
     let second = after(bytes, at + 2);
     let third = after(bytes, second);
@@ -223,25 +211,27 @@ fn best_in(bytes: &[u8], at: usize, p: &mut [u64], x: &mut [f32], y: &mut [f32])
 }
 
 // Whether the record at this place expects this number and these two lags.
-fn expects_pitches(bytes: &[u8], at: usize, got: u32, first: u64, second: u64) -> bool
+fn expects_pitches(bytes: &[u8], at: usize, got: u32, p: [u64; 2]) -> bool
     requires { at < 2 ^ 39 }
 {
     let expected = behind(bytes, at + 1);
-    if got != word(bytes, expected + 2) {
-        return false;
-    }
-    if first != number(bytes, expected + 4) as u64 {
-        return false;
-    }
-    second == number(bytes, expected + 5) as u64
+    got == word(bytes, expected + 2)
+        && p[0] == number(bytes, expected + 4) as u64
+        && p[1] == number(bytes, expected + 5) as u64
 }
 
 // Whether the call of the record at this place agrees, with lent buffers.
-fn pitches_in(bytes: &[u8], at: usize, p: &mut [u64], x: &mut [f32], y: &mut [f32]) -> bool
-    requires { (at < 2 ^ 39) × (length p.old ≡ 2) × (length x.old ≡ 2048) × (length y.old ≡ 2048) }
+fn pitches_in(
+    bytes: &[u8],
+    at: usize,
+    p: &mut [u64; 2],
+    x: &mut [f32; ROOM],
+    y: &mut [f32; ROOM],
+) -> bool
+    requires { at < 2 ^ 39 }
 {
     let got = best_in(bytes, at, p, x, y);
-    expects_pitches(bytes, at, got, p[0], p[1])
+    expects_pitches(bytes, at, got, *p)
 }
 
 // The same with buffers of its own, for find_best_pitch, which answers with two numbers.
@@ -249,8 +239,8 @@ fn replay_pitches(bytes: &[u8], at: usize) -> bool
     requires { at < 2 ^ 39 }
 {
     let mut p = [number(bytes, at + 3) as u64, number(bytes, at + 4) as u64];
-    let mut x = [0.0f32; 2048];
-    let mut y = [0.0f32; 2048];
+    let mut x = [0.0f32; ROOM];
+    let mut y = [0.0f32; ROOM];
     pitches_in(bytes, at, &mut p, &mut x, &mut y)
 }
 

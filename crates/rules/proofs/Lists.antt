@@ -1,10 +1,10 @@
 -- Laws of `tab`, the list of a function's values, and of the loops that store one element a turn, from the front.
---     length-tab, getD-tab, tab-getD, tab-id    a tab's length and elements; a list and its parts, element by element
---     tab-same, tab-const, tab-map              tabs of the same values, of one value, and of a list's elements
---     tab-none, tab-more, tab-done              the invariant `tab i f ++ drop i d`: where the loop begins, after a
+--     length_tab, get_d_tab, tab_get_d, tab_id  a tab's length and elements; a list and its parts, element by element
+--     tab_same, tab_const, tab_map              tabs of the same values, of one value, and of a list's elements
+--     tab_none, tab_more, tab_done              the invariant `tab i f ++ drop i d`: where the loop begins, after a
 --                                               turn, at the end
---     tab-ahead, tab-still                      what the loop has not reached is as it was
---     eachPlace: each-tab, each_map, fused      a loop that works on each place by itself, and two of them as one
+--     tab_ahead, tab_still                      what the loop has not reached is as it was
+--     each_place: each_tab, each_map, fused     a loop that works on each place by itself, and two of them as one
 --     Filling, and `fills`                      the invariant as a record, and what a need of such a loop is searched
 --                                               with
 --     Mapping, and `maps`                       the same of a loop that changes each element in place

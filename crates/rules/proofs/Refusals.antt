@@ -1,12 +1,12 @@
 -- Laws of refusals: of a leaf's promise, and of a table of refusals.
---     leaves, leave-both              what a leaf leaves, in one buffer and in two
+--     leaves, leave_both              what a leaf leaves, in one buffer and in two
 --     fitting, left                   a caller that shows that the lengths fit: the outcome, and what the lent buffer
 --                                     holds
 --     settled                         no second outcome meets the promise
---     clear, none-held, cleared       where no test of a table holds it gives what is right; where it gives 0, no test
+--     clear, none_held, cleared       where no test of a table holds it gives what is right; where it gives 0, no test
 --                                     holds
---     by_rows, by-each, along         what holds of a table's answer, row by row; two tables of the same rows
---     right, none-wrong, one-wrong    lengths that are what stands beside them
+--     by_rows, by_each, along         what holds of a table's answer, row by row; two tables of the same rows
+--     right, none_wrong, one_wrong    lengths that are what stands beside them
 -- Assumes nothing.
 use Rattle.std.specs.Prelude.{◌&&◌, ◌∷◌, ◌≡◌}
 use Rattle.rules.proofs.Common.{ℕ, Bool, true, false, not, List, [], refl, sym, ap, ◌∙◌, eqb}

@@ -15,9 +15,8 @@ pub fn all_good(samples: &[f32]) -> bool
     ensures { result ≡ good samples.now }
 {
     let mut so_far = true;
-    for i in 0..samples.len() {
-        let x = samples[i];
-        so_far = so_far & ((LOWEST <= x) & (x <= HIGHEST));
+    for x in samples {
+        so_far = so_far & ((LOWEST <= *x) & (*x <= HIGHEST));
     }
     so_far
 }

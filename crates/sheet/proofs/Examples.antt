@@ -5,7 +5,7 @@ use Rattle.sheet.specs.Sheet.{four, record_bytes, trailer_of, sheet_bytes}
 use Rattle.sheet.specs.End.{from_four, three_zeros, good_record, run, entry_of, entries_of, trailer_distance, number}
 use Rattle.sheet.specs.End.{side_byte, padded, sum_noted, start, records, sheet_faults, end_of, read_sheet}
 use Rattle.sheet.specs.Mended.{kept, Mended, mended}
-use Rattle.sheet.specs.declared.Reading.TheVariants.{Good, Refused}
+use Rattle.sheet.specs.End.{Good, Refused}
 
 -- two bytes of audio, and a sheet of the right side: frame 300 silent, frame 301 heard
 abbrev recording : List ℕ

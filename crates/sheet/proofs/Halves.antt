@@ -16,8 +16,7 @@ use Rattle.sheet.specs.End.{three_zeros, sum_noted, start, records, sheet_faults
 use Rattle.sheet.specs.End.{reading_of, read_sheet}
 use Rattle.sheet.specs.Asked.{entry_in}
 use Rattle.sheet.specs.Private.{pointed, Pointed, checked}
-use Rattle.sheet.specs.declared.Reading.{Reading}
-use Rattle.sheet.specs.declared.Reading.TheVariants.{Good, Refused}
+use Rattle.sheet.specs.End.{Reading, Good, Refused}
 
 -- ---- the trailer's fields, by their places in the file
 

@@ -15,7 +15,7 @@ use Rattle.sheet.specs.End.{from_four, three_zeros, good_record, run, entry_of, 
 use Rattle.sheet.specs.End.{number, side_byte, padded, sum_noted, start, records, sheet_faults, sheet, refused}
 use Rattle.sheet.specs.End.{end_of, reading_of, read_sheet}
 use Rattle.sheet.specs.Written.{known_kinds, written_faults}
-use Rattle.sheet.specs.declared.Reading.TheVariants.{Good}
+use Rattle.sheet.specs.End.{Good}
 use Rattle.sheet.proofs.Digits.{digits, four_read}
 use Rattle.sheet.proofs.Runs.{first_heard}
 use Rattle.sheet.proofs.Laying.{length_trailer, length_records}

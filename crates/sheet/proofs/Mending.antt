@@ -5,7 +5,7 @@ use Rattle.rules.proofs.Common.{refl, sym, ap, ◌∙◌}
 use Rattle.rules.proofs.Common.{eqb, ltb, length, get_or, take, drop, length-take, length-drop, length-append}
 use mathlib.Core.List.{append_assoc}
 use native.Mathlib.Omega.{arith}
-use borrow.Author.Tests.{le-ltb, eq-eqb, ne_eqb, ltb-false, eqb-false}
+use borrow.Author.Tests.{le-ltb, eq-eqb, ltb-false, eqb-false}
 use lib.Seq.{take_all, take_at, drop_at, take-append_seam, drop-append_seam, drop-drop, take-take, take-add}
 use Rattle.rules.specs.Leaf.{◌leaving◌}
 use Rattle.rules.specs.Lists.{sum, Bytes}
@@ -16,7 +16,7 @@ use Rattle.sheet.specs.End.{read_sheet}
 use Rattle.sheet.specs.Mended.{kept, torn, reads_at, records_in, Mended, mended, mend_faults, mend_of}
 use Rattle.sheet.specs.Laws.{MendedTo, Mends}
 use Rattle.sheet.specs.Private.{closed, copied}
-use Rattle.sheet.specs.declared.Reading.TheVariants.{Good, Refused}
+use Rattle.sheet.specs.End.{Good}
 use Rattle.sheet.proofs.Halves.{length_entries}
 use Rattle.sheet.proofs.Laying.{length_records, length_trailer}
 use Rattle.sheet.proofs.Inverse.{Fits, read_back}
@@ -111,14 +111,6 @@ anew s place numbers out =
     refusing (38 when eqb n 0 ∷ 32 when ltb 536870911 n ∷ 36 when ltb (length out) (length bytes) ∷ [])
     (λ r. r leaving numbers leaving out)
     (0 leaving length bytes ∷ n ∷ [] leaving bytes ++ drop (length bytes) out)
-
-module _ (s : List ℕ) (place : ℕ) where
-  pub read_elsewhere : {start n side : ℕ} → Good start n side ≡ read_sheet s → (start ≡ place → ⊥)
-      → reads_at place (read_sheet s) ≡ false
-  read_elsewhere {start} e h = rw (← e) (ne_eqb start place h)
-
-  pub not_read : {n : ℕ} → Refused n ≡ read_sheet s → reads_at place (read_sheet s) ≡ false
-  not_read e = rw (← e)
 
 module _ (s : List ℕ) (place : ℕ) (numbers out : List ℕ) (two : length numbers ≡ 2) (within : place ≤ length s) where
   pub by_copy : {n side : ℕ} → Good place n side ≡ read_sheet s → copied s n numbers out ≡ mend_of s place numbers out

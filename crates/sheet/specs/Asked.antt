@@ -4,16 +4,16 @@ use Rattle.rules.specs.Common.{ℕ, not, List, [], eqb, leb, length, get_or}
 use Rattle.rules.specs.Leaf.{◌leaving◌}
 use Rattle.rules.specs.Refusals.{◌when◌, refusing}
 use Rattle.sheet.specs.End.{End, sheet, refused, end_of, read_sheet}
-use Rattle.sheet.specs.declared.Reading.{Reading}
-use Rattle.sheet.specs.declared.Reading.TheVariants.{Good, Refused}
+use Rattle.sheet.specs.End.{Reading, Good, Refused}
 
 -- Where the records start, how many there are, and the side.
-abbrev pub told : Reading → List ℕ → ℕ × List ℕ
-told (Good start records side) out = 0 leaving start ∷ records ∷ side ∷ []
-told (Refused n) out = n leaving out
+abbrev pub summary_told : Reading → List ℕ → ℕ × List ℕ
+summary_told (Good start records side) out = 0 leaving start ∷ records ∷ side ∷ []
+summary_told (Refused n) out = n leaving out
 
 unfoldable pub sheet_summary : List ℕ → List ℕ → ℕ × List ℕ
-sheet_summary s out = refusing (5 when not (eqb (length out) 3) ∷ []) (λ n. n leaving out) (told (read_sheet s) out)
+sheet_summary s out =
+    refusing (5 when not (eqb (length out) 3) ∷ []) (λ n. n leaving out) (summary_told (read_sheet s) out)
 
 -- One entry. 5 if there is none with this index.
 abbrev pub entry_in : End → ℕ → List ℕ → ℕ × List ℕ

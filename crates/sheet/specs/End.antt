@@ -1,12 +1,13 @@
 -- What is at the end of some bytes: a sheet and the bytes before it, or a refusal.
-use Rattle.std.specs.Prelude.{◌+◌, ◌-◌, ◌*◌, ◌%◌, ◌&&◌, ◌||◌, ◌∷◌}
+use Rattle.std.specs.Prelude.{Result, Ok, Err, ◌+◌, ◌-◌, ◌*◌, ◌%◌, ◌&&◌, ◌||◌, ◌∷◌}
 use Rattle.rules.specs.Common.{ℕ, zero, suc, Bool, cond, not, List, [], eqb, ltb}
 use Rattle.rules.specs.Common.{length, get_or, take, drop}
 use Rattle.rules.specs.Lists.{sum}
 use Rattle.rules.specs.Refusals.{Row, ◌when◌, refusing}
 use Rattle.sheet.specs.Sheet.{Sheet}
-use Rattle.sheet.specs.declared.Reading.{Reading}
-use Rattle.sheet.specs.declared.Reading.TheVariants.{Good, Refused}
+use Rattle.rules.specs.Refusal.{refusal_number}
+use Rattle.rules.specs.declared.refusal.Refusal.{Refusal}
+use Rattle.sheet.specs.declared.Found.{Found}
 
 -- The number that the first four bytes are.
 unfoldable pub from_four : List ℕ → ℕ
@@ -81,6 +82,16 @@ unfoldable pub end_of : List ℕ → End
 end_of s =
     refusing (sheet_faults s) refused
     (sheet (take (start s) s) (record { side = side_byte s; entries = entries_of (number s) (records s) }))
+
+-- A good sheet: where its records start, how many there are, and the side. Or the number of a refusal.
+pub data Reading : Type 0 where
+  Good : ℕ → ℕ → ℕ → Reading
+  Refused : ℕ → Reading
+
+-- What a reader's answer says.
+abbrev pub read_as : Result Found Refusal → Reading
+read_as (Ok found) = Good found.start found.records found.side
+read_as (Err refusal) = Refused (refusal_number refusal)
 
 -- What a reader is told: where the records start, how many there are, and the side.
 abbrev pub reading_of : End → Reading

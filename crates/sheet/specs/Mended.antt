@@ -6,8 +6,7 @@ use Rattle.rules.specs.Leaf.{◌leaving◌}
 use Rattle.rules.specs.Refusals.{Row, ◌when◌, refusing}
 use Rattle.sheet.specs.Sheet.{Sheet, sheet_bytes}
 use Rattle.sheet.specs.End.{run, entries_of, read_sheet}
-use Rattle.sheet.specs.declared.Reading.{Reading}
-use Rattle.sheet.specs.declared.Reading.TheVariants.{Good, Refused}
+use Rattle.sheet.specs.End.{Reading, Good, Refused}
 
 -- How many whole good records, all of the first one's side, are at the front of the bytes after the audio.
 unfoldable pub kept : List ℕ → ℕ

@@ -6,8 +6,7 @@ use Rattle.rules.specs.Lists.{sum}
 use Rattle.rules.specs.Refusals.{◌when◌, refusing}
 use Rattle.sheet.specs.Sheet.{kind, trailer_of}
 use Rattle.sheet.specs.End.{number, side_byte, start, sheet_faults}
-use Rattle.sheet.specs.declared.Reading.{Reading}
-use Rattle.sheet.specs.declared.Reading.TheVariants.{Good, Refused}
+use Rattle.sheet.specs.End.{Reading, Good, Refused}
 
 -- The answer by the first three refusals alone, and the answer by the others.
 abbrev pub pointed : List ℕ → Reading

@@ -7,28 +7,31 @@ pub mod parts;
 ghost use Rattle.std.specs.Prelude.{false, ◌≡◌, ◌+◌, ◌*◌, ◌/◌, ◌%◌, ◌≤◌, ◌<◌, ◌^◌, length, drop};
 ghost use Rattle.rules.specs.Leaf.{◌leaving◌};
 ghost use Rattle.rules.specs.Lists.{sum};
-ghost use Rattle.sheet.specs.Sheet.{kind, record_bytes, records_of, trailer_of, sheet_size};
-ghost use Rattle.sheet.specs.End.{from_four, three_zeros, good_record, run, entry_of, read_sheet};
+ghost use Rattle.rules.specs.Refusal.{told};
+ghost use Rattle.sheet.specs.Sheet.{four, kind, record_bytes, records_of, trailer_of, sheet_size};
+ghost use Rattle.sheet.specs.End.{from_four, three_zeros, good_record, run, entry_of, read_as, read_sheet};
 ghost use Rattle.sheet.specs.Asked.{sheet_summary, entry_at};
 ghost use Rattle.sheet.specs.Written.{known_kinds, written_of};
 ghost use Rattle.sheet.specs.Mended.{kept, reads_at, mend_of};
 ghost use Rattle.sheet.specs.Private.{pointed, Few, Pointed, checked, Kinds, closed, copied};
 
-// A good sheet: where its records start, how many there are, and the side. Or the number of a refusal.
-#[derive(Drop)]
-pub enum Reading {
-    Good {
-        start: usize,
-        records: usize,
-        side: u32,
-    },
-    Refused(u32),
+use rules::Refusal;
+
+// A good sheet in a file.
+#[derive(Clone, Copy)]
+pub struct Found {
+    // Where its records start.
+    pub start: usize,
+    // How many there are.
+    pub records: usize,
+    // 0 left, 1 right.
+    pub side: u32,
 }
 
 pub fn joined(a: u8, b: u8, c: u8, d: u8) -> usize
     ensures { (result ≡ a + 256 * b + 65536 * c + 16777216 * d) × (result < 2 ^ 32) }
 {
-    (a as usize) + 256 * (b as usize) + 65536 * (c as usize) + 16777216 * (d as usize)
+    u32::from_le_bytes([a, b, c, d]) as usize
 }
 
 // The number that four bytes at a place are, least significant byte first.
@@ -40,6 +43,7 @@ fn number_at(file: &[u8], at: usize) -> usize
 }
 
 // Whether three bytes at a place are 0.
+// Stays: with `&&` in place of the tests in a row it was tried, and the proof didn't close. So it is in `is_good`.
 fn zeros_at(bytes: &[u8], at: usize) -> bool
     requires { at + 3 ≤ length bytes.now }
     ensures { result ≡ three_zeros (drop at bytes.now) }
@@ -71,6 +75,7 @@ fn is_good(bytes: &[u8], at: usize, side: u32) -> bool
 }
 
 // How many of the first n records are good ones of this side, up to the first that is not.
+// Stays: a record is 8 bytes at a place, so the index is used in arithmetic, and an iterator is no plainer.
 fn run_of(bytes: &[u8], records: usize, side: u32) -> usize
     requires { 8 * records ≤ length bytes.now }
     ensures { result ≡ run side records bytes.now }
@@ -88,96 +93,72 @@ fn total(bytes: &[u8]) -> u64
     ensures { (result ≡ sum bytes.now) × (result < 2 ^ 40) }
 {
     let mut sum = 0;
-    for i in 0..bytes.len() {
-        sum += bytes[i] as u64;
+    for byte in bytes {
+        sum += *byte as u64;
     }
     sum
 }
 
-// Refusals 31 to 33.
-fn pointed_to(file: &[u8]) -> Reading
-    ensures { (result ≡ pointed file.now) × Few result }
+// The sheet that a trailer points back to, by refusals 31 to 33 alone.
+fn pointed_to(file: &[u8]) -> Result<Found, Refusal>
+    ensures { (read_as result ≡ pointed file.now) × Few (read_as result) }
 {
     if file.len() < 16 {
-        return Reading::Refused(31);
+        return Err(Refusal::SheetShort);
     }
     let end = file.len() - 16;
     let distance = number_at(file, end);
     let records = number_at(file, end + 4);
-    if distance != 8 * records {
-        return Reading::Refused(32);
-    }
-    if end < distance {
-        return Reading::Refused(32);
+    if distance != 8 * records || end < distance {
+        return Err(Refusal::SheetDistance);
     }
     let side = file[end + 8] as u32;
-    if 1 < side {
-        return Reading::Refused(33);
+    if 1 < side || !zeros_at(file, end + 9) {
+        return Err(Refusal::SheetSide);
     }
-    if !zeros_at(file, end + 9) {
-        return Reading::Refused(33);
-    }
-    Reading::Good {
+    Ok(Found {
         start: end - distance,
         records,
         side,
-    }
+    })
 }
 
-// Refusals 34 and 35, for so many records from `start` to the trailer.
-fn checked_at(file: &[u8], start: usize, records: usize, side: u32) -> Reading
-    requires { Pointed file.now start records side }
-    ensures { result ≡ checked file.now }
+// The same sheet, by refusals 34 and 35.
+fn checked_at(file: &[u8], found: Found) -> Result<Found, Refusal>
+    requires { Pointed file.now found.start found.records found.side }
+    ensures { read_as result ≡ checked file.now }
 {
-    let end = start + 8 * records;
-    if run_of(&file[start..], records, side) != records {
-        return Reading::Refused(34);
+    let end = found.start + 8 * found.records;
+    if run_of(&file[found.start..], found.records, found.side) != found.records {
+        return Err(Refusal::SheetRecord);
     }
     let noted = number_at(file, end + 12);
-    if total(&file[start..end]) % 4294967296 != noted as u64 {
-        return Reading::Refused(35);
+    if total(&file[found.start..end]) % 4294967296 != noted as u64 {
+        return Err(Refusal::SheetSum);
     }
-    Reading::Good {
-        start,
-        records,
-        side,
-    }
+    Ok(found)
 }
 
-pub fn read(file: &[u8]) -> Reading
-    ensures { result ≡ read_sheet file.now }
+pub fn read(file: &[u8]) -> Result<Found, Refusal>
+    ensures { read_as result ≡ read_sheet file.now }
 {
-    match pointed_to(file) {
-        Reading::Good {
-            start,
-            records,
-            side,
-        } => checked_at(file, start, records, side),
-        Reading::Refused(number) => Reading::Refused(number),
-    }
+    let found = pointed_to(file)?;
+    checked_at(file, found)
 }
 
 // For a host: where the records start, how many there are, and the side. A buffer of other than three places
-// is refused with 5.
-pub fn summary(numbers: &mut [u64], file: &[u8]) -> u32
-    ensures { (result leaving numbers.new) ≡ sheet_summary file.now numbers.old }
+// is refused as of a wrong length.
+pub fn summary(numbers: &mut [u64], file: &[u8]) -> Result<(), Refusal>
+    ensures { (told result leaving numbers.new) ≡ sheet_summary file.now numbers.old }
 {
     if numbers.len() != 3 {
-        return 5;
+        return Err(Refusal::WrongLength);
     }
-    match read(file) {
-        Reading::Good {
-            start,
-            records,
-            side,
-        } => {
-            numbers[0] = start as u64;
-            numbers[1] = records as u64;
-            numbers[2] = side as u64;
-            0
-        }
-        Reading::Refused(number) => number,
-    }
+    let found = read(file)?;
+    numbers[0] = found.start as u64;
+    numbers[1] = found.records as u64;
+    numbers[2] = found.side as u64;
+    Ok(())
 }
 
 // The entry of the record at a place.
@@ -188,36 +169,29 @@ fn entry_of(file: &[u8], at: usize) -> u64
     number_at(file, at) as u64 + 4294967296 * (file[at + 4] as u64)
 }
 
-// For a host: the entry with this index, counted from 0. A buffer of other than one place is refused with 5,
-// and so is an index beyond the last.
-pub fn entry(entry: &mut [u64], file: &[u8], index: u64) -> u32
-    ensures { (result leaving entry.new) ≡ entry_at file.now index entry.old }
+// For a host: the entry with this index, counted from 0. A buffer of other than one place is refused as of a wrong
+// length, and so is an index beyond the last.
+pub fn entry(entry: &mut [u64], file: &[u8], index: u64) -> Result<(), Refusal>
+    ensures { (told result leaving entry.new) ≡ entry_at file.now index entry.old }
 {
     if entry.len() != 1 {
-        return 5;
+        return Err(Refusal::WrongLength);
     }
-    match read(file) {
-        Reading::Good {
-            start,
-            records,
-            side: _,
-        } => {
-            if records as u64 <= index {
-                return 5;
-            }
-            entry[0] = entry_of(file, start + 8 * (index as usize));
-            0
-        }
-        Reading::Refused(number) => number,
+    let found = read(file)?;
+    if found.records as u64 <= index {
+        return Err(Refusal::WrongLength);
     }
+    entry[0] = entry_of(file, found.start + 8 * (index as usize));
+    Ok(())
 }
 
 // Whether every entry is silent or heard.
+// Stays: `iter().all(..)` was tried, and the proof didn't close.
 fn kinds_good(entries: &[u64]) -> bool
     ensures { result ≡ known_kinds entries.now }
 {
-    for i in 0..entries.len() {
-        if 1 < entries[i] / 4294967296 {
+    for entry in entries {
+        if 1 < *entry / 4294967296 {
             return false;
         }
     }
@@ -230,66 +204,46 @@ pub fn low(number: u64) -> u8
     (number % 256) as u8
 }
 
+// The four bytes of a number modulo 2^32, least significant byte first.
+pub fn four(number: u64) -> [u8; 4]
+    ensures { result ≡ four number }
+{
+    ((number % 4294967296) as u32).to_le_bytes()
+}
+
 fn record_of(side: u32, entry: u64) -> [u8; 8]
     requires { (side ≤ 1) × (kind entry ≤ 1) }
     ensures { result ≡ record_bytes side entry }
 {
-    [
-        low(entry),
-        low(entry / 256),
-        low(entry / 65536),
-        low(entry / 16777216),
-        low(entry / 4294967296),
-        side as u8,
-        0,
-        0,
-    ]
+    let mut bytes = [0; 8];
+    bytes[..4].copy_from_slice(&four(entry));
+    bytes[4] = (entry / 4294967296) as u8;
+    bytes[5] = side as u8;
+    bytes
 }
 
 fn trailer_of(records: usize, side: u32, sum: u64) -> [u8; 16]
     requires { (records < 2 ^ 29) × (side ≤ 1) }
     ensures { result ≡ trailer_of records side sum }
 {
-    let n = records as u64;
-    let distance = 8 * n;
-    [
-        low(distance),
-        low(distance / 256),
-        low(distance / 65536),
-        low(distance / 16777216),
-        low(n),
-        low(n / 256),
-        low(n / 65536),
-        low(n / 16777216),
-        side as u8,
-        0,
-        0,
-        0,
-        low(sum),
-        low(sum / 256),
-        low(sum / 65536),
-        low(sum / 16777216),
-    ]
-}
-
-fn copy(out: &mut [u8], bytes: &[u8])
-    requires { length out.old ≡ length bytes.now }
-    ensures { out.new ≡ bytes.now }
-{
-    for i in 0..out.len() {
-        out[i] = bytes[i];
-    }
+    let n = records as u32;
+    let mut bytes = [0; 16];
+    bytes[..4].copy_from_slice(&(8 * n).to_le_bytes());
+    bytes[4..8].copy_from_slice(&n.to_le_bytes());
+    bytes[8..12].copy_from_slice(&[side as u8, 0, 0, 0]);
+    bytes[12..].copy_from_slice(&four(sum));
+    bytes
 }
 
 fn write_records(out: &mut [u8], side: u32, entries: &[u64])
     requires { (length out.old ≡ 8 * length entries.now) × (side ≤ 1) × Kinds entries.now }
     ensures { out.new ≡ records_of side entries.now }
 {
-    for i in 0..entries.len() {
-        let bytes = record_of(side, entries[i]);
+    for (i, entry) in entries.iter().enumerate() {
+        let bytes = record_of(side, *entry);
         let at = 8 * i;
         let end = at + 8;
-        copy(&mut out[at..end], &bytes);
+        out[at..end].copy_from_slice(&bytes);
     }
 }
 
@@ -301,33 +255,33 @@ fn close(out: &mut [u8], records: usize, side: u32)
     let end = 8 * records;
     let sum = total(&out[..end]);
     let bytes = trailer_of(records, side, sum);
-    copy(&mut out[end..], &bytes);
+    out[end..].copy_from_slice(&bytes);
 }
 
 // Writes the sheet of these entries to the front of a buffer. An entry is a frame's number, plus 2^32 if it
 // was heard.
-pub fn write(out: &mut [u8], side: u32, entries: &[u64]) -> u32
-    ensures { (result leaving out.new)
+pub fn write(out: &mut [u8], side: u32, entries: &[u64]) -> Result<(), Refusal>
+    ensures { (told result leaving out.new)
         ≡ written_of (record { side = side; entries = entries.now }) out.old }
 {
     let records = entries.len();
     if 536870911 < records {
-        return 32;
+        return Err(Refusal::SheetDistance);
     }
     if 1 < side {
-        return 33;
+        return Err(Refusal::SheetSide);
     }
     if !kinds_good(entries) {
-        return 34;
+        return Err(Refusal::SheetRecord);
     }
     let end = 8 * records;
     let size = end + 16;
     if out.len() < size {
-        return 36;
+        return Err(Refusal::SheetNoRoom);
     }
     write_records(&mut out[..end], side, entries);
     close(&mut out[..size], records, side);
-    0
+    Ok(())
 }
 
 // How many whole good records, all of the first one's side, are at the front.
@@ -345,72 +299,68 @@ fn kept_of(bytes: &[u8]) -> usize
 }
 
 // Copies a file that reads, with so many records.
-fn copy_whole(numbers: &mut [u64], out: &mut [u8], file: &[u8], records: usize) -> u32
+fn copy_whole(
+    numbers: &mut [u64],
+    out: &mut [u8],
+    file: &[u8],
+    records: usize,
+) -> Result<(), Refusal>
     requires { length numbers.old ≡ 2 }
-    ensures { (result leaving numbers.new leaving out.new)
+    ensures { (told result leaving numbers.new leaving out.new)
         ≡ copied file.now records numbers.old out.old }
 {
     let size = file.len();
     if out.len() < size {
-        return 36;
+        return Err(Refusal::SheetNoRoom);
     }
-    copy(&mut out[..size], file);
+    out[..size].copy_from_slice(file);
     numbers[0] = size as u64;
     numbers[1] = records as u64;
-    0
+    Ok(())
 }
 
 // Mends a file that does not read so: its bytes up to a place, the good records after it, and a trailer.
-fn mend_run(numbers: &mut [u64], out: &mut [u8], file: &[u8], at: usize) -> u32
+fn mend_run(numbers: &mut [u64], out: &mut [u8], file: &[u8], at: usize) -> Result<(), Refusal>
     requires { (length numbers.old ≡ 2) × (at ≤ length file.now) × (reads_at at (read_sheet file.now) ≡ false) }
-    ensures { (result leaving numbers.new leaving out.new)
+    ensures { (told result leaving numbers.new leaving out.new)
         ≡ mend_of file.now at numbers.old out.old }
 {
     let records = kept_of(&file[at..]);
     if records == 0 {
-        return 38;
+        return Err(Refusal::MendNothing);
     }
     if 536870911 < records {
-        return 32;
+        return Err(Refusal::SheetDistance);
     }
     let end = at + 8 * records;
     let size = end + 16;
     if out.len() < size {
-        return 36;
+        return Err(Refusal::SheetNoRoom);
     }
     let side = file[at + 5] as u32;
-    copy(&mut out[..end], &file[..end]);
+    out[..end].copy_from_slice(&file[..end]);
     close(&mut out[at..size], records, side);
     numbers[0] = size as u64;
     numbers[1] = records as u64;
-    0
+    Ok(())
 }
 
 // For a host: mends a torn sheet. The audio ends at a place. Whole good records of one side from there on are
 // kept, and get a new trailer. A file that reads with its records at that place is copied. The numbers are
 // how many bytes were written, and how many records they have.
-pub fn mend(numbers: &mut [u64], out: &mut [u8], file: &[u8], place: u64) -> u32
-    ensures { (result leaving numbers.new leaving out.new)
+pub fn mend(numbers: &mut [u64], out: &mut [u8], file: &[u8], place: u64) -> Result<(), Refusal>
+    ensures { (told result leaving numbers.new leaving out.new)
         ≡ mend_of file.now place numbers.old out.old }
 {
     if numbers.len() != 2 {
-        return 5;
+        return Err(Refusal::WrongLength);
     }
     if (file.len() as u64) < place {
-        return 37;
+        return Err(Refusal::MendPlace);
     }
     let at = place as usize;
     match read(file) {
-        Reading::Good {
-            start,
-            records,
-            side: _,
-        } => {
-            if start == at {
-                return copy_whole(numbers, out, file, records);
-            }
-            mend_run(numbers, out, file, at)
-        }
-        Reading::Refused(_) => mend_run(numbers, out, file, at),
+        Ok(found) if found.start == at => copy_whole(numbers, out, file, found.records),
+        _ => mend_run(numbers, out, file, at),
     }
 }

@@ -2,9 +2,12 @@
 ghost use Rattle.std.specs.Prelude.{◌≡◌, ◌*◌, ◌≤◌, ◌<◌, ◌^◌, length};
 ghost use Rattle.rules.specs.Leaf.{◌leaving◌};
 ghost use Rattle.rules.specs.Lists.{sum};
+ghost use Rattle.rules.specs.Refusal.{told};
 ghost use Rattle.sheet.specs.Sheet.{records_of};
 ghost use Rattle.sheet.specs.Rows.{records_laid, trailer_laid};
 ghost use Rattle.sheet.specs.Private.{Kinds};
+
+use rules::Refusal;
 
 // Writes the records into a buffer that they fill, and returns the sum of their bytes.
 fn lay(out: &mut [u8], side: u32, entries: &[u64]) -> u64
@@ -20,53 +23,55 @@ fn lay(out: &mut [u8], side: u32, entries: &[u64]) -> u64
 
 // For a host: writes the records of these entries to the front of a buffer. The numbers are how many records
 // there are and the sum of their bytes, before and after; both 0 at first. A buffer of other than two numbers
-// is refused with 5.
-pub fn records(numbers: &mut [u64], out: &mut [u8], side: u32, entries: &[u64]) -> u32
-    ensures { (result leaving numbers.new leaving out.new)
+// is refused as of a wrong length.
+pub fn records(
+    numbers: &mut [u64],
+    out: &mut [u8],
+    side: u32,
+    entries: &[u64],
+) -> Result<(), Refusal>
+    ensures { (told result leaving numbers.new leaving out.new)
         ≡ records_laid side entries.now numbers.old out.old }
 {
     if numbers.len() != 2 {
-        return 5;
+        return Err(Refusal::WrongLength);
     }
     let before = numbers[0];
     let passed = numbers[1] % 4294967296;
     let more = entries.len() as u64;
-    if 536870911 < more {
-        return 32;
-    }
-    if 536870911 - more < before {
-        return 32;
+    if 536870911 < more || 536870911 - more < before {
+        return Err(Refusal::SheetDistance);
     }
     if 1 < side {
-        return 33;
+        return Err(Refusal::SheetSide);
     }
     if !crate::kinds_good(entries) {
-        return 34;
+        return Err(Refusal::SheetRecord);
     }
     let end = 8 * entries.len();
     if out.len() < end {
-        return 36;
+        return Err(Refusal::SheetNoRoom);
     }
     let sum = lay(&mut out[..end], side, entries);
     numbers[0] = before + more;
     numbers[1] = (passed + sum) % 4294967296;
-    0
+    Ok(())
 }
 
 // For a host: writes the trailer of so many records, whose bytes have this sum, to the front of a buffer.
-pub fn trailer(out: &mut [u8], side: u32, count: u64, sum: u64) -> u32
-    ensures { (result leaving out.new) ≡ trailer_laid side count sum out.old }
+pub fn trailer(out: &mut [u8], side: u32, count: u64, sum: u64) -> Result<(), Refusal>
+    ensures { (told result leaving out.new) ≡ trailer_laid side count sum out.old }
 {
     if 536870911 < count {
-        return 32;
+        return Err(Refusal::SheetDistance);
     }
     if 1 < side {
-        return 33;
+        return Err(Refusal::SheetSide);
     }
     if out.len() < 16 {
-        return 36;
+        return Err(Refusal::SheetNoRoom);
     }
     let bytes = crate::trailer_of(count as usize, side, sum);
-    crate::copy(&mut out[..16], &bytes);
-    0
+    out[..16].copy_from_slice(&bytes);
+    Ok(())
 }

@@ -1,5 +1,5 @@
 -- A side's number and its letters mean that side alone. Assumes nothing.
-use Rattle.std.specs.Prelude.{◌≡◌}
+use Rattle.std.specs.Prelude.{◌≡◌, Some, None}
 use Rattle.rules.proofs.Common.{ℕ, Bool, true, false, cond, refl, eqb}
 use native.Mathlib.Omega.{arith}
 use borrow.Author.Tests.{eqb-true}
@@ -7,7 +7,6 @@ use Rattle.sides.specs.Sides.{LEFT, RGHT}
 use Rattle.sides.specs.Laws.{NumberBack, NumberOnly, LettersBack, LettersOnly}
 use Rattle.sides.specs.declared.Side.{Side}
 use Rattle.sides.specs.declared.Side.TheVariants.{Left, Right}
-use Rattle.sides.specs.declared.Meant.TheVariants.{Means, Nothing}
 
 pub number_back : NumberBack
 number_back Left = refl
@@ -18,7 +17,7 @@ letters_back Left = refl
 letters_back Right = refl
 
 -- of two tests, the one that holds says the side
-pick : (s t : Bool) (side : Side) {A : Type 0} → cond s (Means Left) (cond t (Means Right) Nothing) ≡ Means side
+pick : (s t : Bool) (side : Side) {A : Type 0} → cond s (Some Left) (cond t (Some Right) None) ≡ Some side
     → (s ≡ true → Left ≡ side → A) → (t ≡ true → Right ≡ side → A) → A
 pick true t side e left right = left refl (let z : Left ≡ side = cc in z)
 pick false true side e left right = right refl (let z : Right ≡ side = cc in z)

@@ -17,55 +17,46 @@ pub enum Side {
     Right,
 }
 
-// What a number or four letters mean: a side, or none.
-#[derive(Drop)]
-pub enum Meant {
-    Means(Side),
-    Nothing,
-}
+impl Side {
+    // A side's number in a file: 0 left, 1 right.
+    pub fn number(self) -> u8
+        ensures { (result ≡ number_of self) × (result ≤ 1) }
+    {
+        match self {
+            Side::Left => 0,
+            Side::Right => 1,
+        }
+    }
 
-// A side's number in a file: 0 left, 1 right.
-pub fn number(side: Side) -> u8
-    ensures { (result ≡ number_of side) × (result ≤ 1) }
-{
-    match side {
-        Side::Left => 0,
-        Side::Right => 1,
+    // A side's four letters, as the number that they are with the little end first.
+    pub fn letters(self) -> u32
+        ensures { result ≡ letters_of self }
+    {
+        match self {
+            Side::Left => LEFT,
+            Side::Right => RGHT,
+        }
     }
-}
 
-// A side's four letters, as the number that they are with the little end first.
-pub fn letters(side: Side) -> u32
-    ensures { result ≡ letters_of side }
-{
-    match side {
-        Side::Left => LEFT,
-        Side::Right => RGHT,
+    // The side with this number, if one has it.
+    pub fn of_number(number: u32) -> Option<Side>
+        ensures { result ≡ of_number number }
+    {
+        match number {
+            0 => Some(Side::Left),
+            1 => Some(Side::Right),
+            _ => None,
+        }
     }
-}
 
-// The side with this number.
-pub fn of_number(number: u32) -> Meant
-    ensures { result ≡ of_number number }
-{
-    if number == 0 {
-        return Meant::Means(Side::Left);
+    // The side with these four letters, if one has them.
+    pub fn of_letters(letters: u32) -> Option<Side>
+        ensures { result ≡ of_letters letters }
+    {
+        match letters {
+            LEFT => Some(Side::Left),
+            RGHT => Some(Side::Right),
+            _ => None,
+        }
     }
-    if number == 1 {
-        return Meant::Means(Side::Right);
-    }
-    Meant::Nothing
-}
-
-// The side with these four letters.
-pub fn of_letters(letters: u32) -> Meant
-    ensures { result ≡ of_letters letters }
-{
-    if letters == LEFT {
-        return Meant::Means(Side::Left);
-    }
-    if letters == RGHT {
-        return Meant::Means(Side::Right);
-    }
-    Meant::Nothing
 }

@@ -1,15 +1,14 @@
 -- The examples that document 01 marks with a star, in one list, computed from the definitions alone. What a NaN gives
 -- is decided by request 09.
-use Rattle.std.specs.Prelude.{◌∷◌, ◌++◌, ◌≡◌}
+use Rattle.std.specs.Prelude.{◌∷◌, ◌++◌, ◌≡◌, Some, None}
 use Rattle.rules.specs.Common.{ℕ, List, [], map, take, replicate, binary32, nan}
 use Rattle.rules.specs.F32.{f32, one}
 use Rattle.numbers.specs.Activations.{tansig_approx, sigmoid_approx}
 use Rattle.numbers.specs.Larger.{rectified}
 use Rattle.numbers.specs.Root.{root}
 use Rattle.model.specs.Model.{read_of}
-use Rattle.model.specs.declared.Reading.TheVariants.{Refused}
+use Rattle.model.specs.Reading.{Refused}
 use Rattle.features.specs.Silence.{sound_of}
-use Rattle.features.specs.declared.Sound.TheVariants.{Silent, Heard}
 
 -- The smallest model, of 392 bytes: each GRU has one neuron, and all weights and biases are 0.
 abbrev pub smallest_file : List ℕ
@@ -38,4 +37,4 @@ Starred =
     ≡ f32 0x4000_0000 ∷ f32 0x3FB5_04F3 ∷ nan ∷ f32 0x8000_0000 ∷ [])
     × (map read_of ([] ∷ (128 ∷ 0 ∷ 0 ∷ []) ∷ take 391 smallest_file ∷ (smallest_file ++ 0 ∷ []) ∷ [])
     ≡ Refused 11 0 ∷ Refused 12 0 ∷ Refused 16 5 ∷ Refused 17 6 ∷ [])
-    × (map sound_of (f32 0x3D23_D70A ∷ f32 0x3D23_D709 ∷ nan ∷ []) ≡ Heard (f32 0x3D23_D70A) ∷ Silent ∷ Heard nan ∷ [])
+    × (map sound_of (f32 0x3D23_D70A ∷ f32 0x3D23_D709 ∷ nan ∷ []) ≡ Some (f32 0x3D23_D70A) ∷ None ∷ Some nan ∷ [])

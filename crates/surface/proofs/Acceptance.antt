@@ -4,26 +4,22 @@
 --     frame-asks, take-asks    a frame and a take
 -- Assumes nothing.
 use Rattle.std.specs.Prelude.{◌*◌, ◌≤◌, ◌&&◌, ◌||◌, ◌∷◌, ◌++◌, ◌≡◌}
-use Rattle.rules.proofs.Common.{ℕ, Bool, true, false, cond, not, true≢false, false≢true, List, []}
+use Rattle.rules.proofs.Common.{ℕ, Bool, true, false, cond, not, List, []}
 use Rattle.rules.proofs.Common.{refl, sym, ap, ◌∙◌}
 use Rattle.rules.proofs.Common.{eqb, leb, ltb, length, Float}
 use native.Mathlib.Omega.{arith}
-use borrow.Author.Tests.{eq-eqb, eqb-true, eqb-false, le-ltb, ltb-true, leb-true}
+use borrow.Author.Tests.{eq-eqb, eqb-true, le-ltb, ltb-true, leb-true}
 use Rattle.rules.specs.Place.{get}
 use Rattle.rules.proofs.Places.{length_get}
 use Rattle.rules.proofs.Tests.{both}
 use Rattle.samples.specs.Samples.{good}
 use Rattle.model.specs.Model.{read_of}
-use Rattle.model.specs.declared.Model.{Model}
-use Rattle.model.specs.declared.Reading.{Reading}
-use Rattle.model.specs.declared.Reading.TheVariants.{Good, Refused as Unread}
+use Rattle.model.specs.Reading.{Reading, Good, Refused as Unread}
 use Rattle.features.specs.Silence.{energy, is_silent}
 use Rattle.frame.specs.declared.Hearing.{Hearing}
-use Rattle.frame.specs.declared.Reply.{Reply}
-use Rattle.frame.specs.declared.Reply.TheVariants.{Done, Refused, Misread}
+use Rattle.frame.specs.Reply.{Reply, Done, Refused, passed, ◌refusedIf◌, first_refusal}
 use Rattle.frame.specs.declared.Way.{Way}
 use Rattle.frame.specs.Effect.{Effect, refusal, unless}
-use Rattle.frame.specs.Reply.{passed, ◌refusedIf◌, first_refusal}
 use Rattle.frame.specs.Heard.{Spoken, spoken}
 use Rattle.frame.specs.Share.{PART, SHARE, input_mem, kept_ex}
 use Rattle.lag.specs.Lag.{own_lag}
@@ -44,7 +40,7 @@ use Rattle.desk.specs.declared.Record.{Record}
 use Rattle.desk.specs.Gate.{PIECE, RESUME, in_range, is_due, gate, share_of}
 use Rattle.desk.specs.Desk.{Ask, opening, call1, call2, call2_own, call3, call4, first_half, second_half, piece, resume}
 use Rattle.desk.specs.Desk.{call_of, opened, admitted, on_share, desk}
-use Rattle.desk.specs.declared.Answer.{Answer}
+use Rattle.desk.specs.Answer.{Answer}
 use Rattle.desk.specs.Laws.{placed}
 use Rattle.desk.proofs.Answered.{done_alike}
 use Rattle.desk.proofs.Ranged.{bounded}

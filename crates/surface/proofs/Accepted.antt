@@ -5,11 +5,10 @@ use Rattle.rules.proofs.Common.{leb, length, Float}
 use Rattle.rules.specs.Place.{get}
 use Rattle.rules.specs.Refusals.{◌when◌, refusing}
 use Rattle.samples.specs.Samples.{good}
-use Rattle.frame.specs.declared.Reply.TheVariants.{Refused}
+use Rattle.frame.specs.Reply.{Refused, passed}
 use Rattle.frame.specs.Effect.{Effect, refusal}
-use Rattle.frame.specs.Reply.{passed}
 use Rattle.pieces.specs.Pieces.{waiting_in, completes, piece_fits}
-use Rattle.desk.specs.declared.Answer.{Answer}
+use Rattle.desk.specs.Answer.{Answer}
 use Rattle.desk.specs.declared.Record.{Record}
 use Rattle.desk.specs.Gate.{PIECE, side_of, gate, share_of}
 use Rattle.desk.specs.Desk.{piece}

@@ -17,11 +17,9 @@ use Rattle.rules.specs.Place.{get, put}
 use Rattle.frame.specs.Written.{Written, from, nothing, numbers_in, first_in}
 use Rattle.rules.proofs.Places.{length_get, get_whole, put_whole}
 use Rattle.rules.proofs.Tests.{both}
-use Rattle.desk.specs.declared.Answer.{Answer}
+use Rattle.desk.specs.Answer.{Answer}
 use Rattle.frame.specs.Effect.{Effect}
-use Rattle.frame.specs.declared.Reply.{Reply}
-use Rattle.frame.specs.declared.Reply.TheVariants.{Done}
-use Rattle.frame.specs.Reply.{passed}
+use Rattle.frame.specs.Reply.{Reply, Done, passed}
 use Rattle.frame.specs.Share.{SHARE}
 use Rattle.pieces.specs.Pieces.{waiting_in, waits}
 use Rattle.pieces.proofs.Shares.{waiting_length, waits_length}

@@ -6,8 +6,8 @@ use Rattle.rules.specs.F32.{zeros}
 use Rattle.rules.specs.Refusals.{refusing}
 use Rattle.frame.specs.Effect.{Effect, refusal}
 use Rattle.frame.specs.Share.{SHARE}
-use Rattle.frame.specs.declared.Reply.TheVariants.{Refused}
-use Rattle.desk.specs.declared.Answer.{Answer}
+use Rattle.frame.specs.Reply.{Refused}
+use Rattle.desk.specs.Answer.{Answer}
 use Rattle.desk.specs.declared.Record.{Record}
 use Rattle.desk.specs.Gate.{BENCHES, PIECE, side_of, gate}
 use Rattle.desk.specs.Surface.{record_in}

@@ -9,9 +9,7 @@ use lib.ListN.{get_or-append}
 use lib.Seq.{get_or-append-add, drop-drop, drop_at}
 use Rattle.rules.specs.F32.{f32, at}
 use Rattle.rules.proofs.Lists.{length_tab, get_d_tab}
-use Rattle.frame.specs.Reply.{is_heard}
-use Rattle.frame.specs.declared.Reply.{Reply}
-use Rattle.frame.specs.declared.Reply.TheVariants.{Heard, Done, Silent, Numbered, Refused, Misread}
+use Rattle.frame.specs.Reply.{is_heard, Reply, Heard, Done, Silent, Numbered, Refused, Misread}
 use Rattle.desk.specs.Gate.{side_of}
 use Rattle.desk.specs.Surface.{heard_of}
 use Rattle.dictation.specs.Dictation.{Told}

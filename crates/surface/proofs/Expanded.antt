@@ -13,11 +13,9 @@ use Rattle.rules.proofs.Refusals.{along}
 use Rattle.frame.specs.Written.{first_in}
 use Rattle.logs.specs.Log10.{logs_of}
 use Rattle.frame.specs.Effect.{Effect, refusal}
-use Rattle.frame.specs.declared.Reply.{Reply}
-use Rattle.frame.specs.declared.Reply.TheVariants.{Refused}
-use Rattle.frame.specs.Reply.{passed}
+use Rattle.frame.specs.Reply.{Reply, Refused, passed}
 use Rattle.pieces.specs.Pieces.{completes}
-use Rattle.desk.specs.declared.Answer.{Answer}
+use Rattle.desk.specs.Answer.{Answer}
 use Rattle.desk.specs.declared.Record.{Record}
 use Rattle.desk.specs.Gate.{BENCHES, PIECE, side_of, gate, share_of}
 use Rattle.desk.specs.Desk.{Ask, first_half, second_half, piece, resume, desk}

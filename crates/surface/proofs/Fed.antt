@@ -12,11 +12,9 @@ use Rattle.rules.specs.Place.{get, put}
 use Rattle.frame.specs.Written.{nothing, first_in, wholes_in}
 use Rattle.rules.proofs.Places.{length_get, get_put}
 use Rattle.rules.proofs.Refusals.{by_rows}
-use Rattle.desk.specs.declared.Answer.{Answer}
+use Rattle.desk.specs.Answer.{Answer}
 use Rattle.frame.specs.Effect.{Effect, refusal}
-use Rattle.frame.specs.declared.Reply.{Reply}
-use Rattle.frame.specs.declared.Reply.TheVariants.{Refused}
-use Rattle.frame.specs.Reply.{passed}
+use Rattle.frame.specs.Reply.{Reply, Refused, passed}
 use Rattle.frame.specs.Share.{SHARE}
 use Rattle.pieces.specs.Pieces.{waiting_in}
 use Rattle.desk.specs.declared.Record.{Record}

@@ -13,17 +13,14 @@ use Rattle.samples.specs.Samples.{good}
 use Rattle.logs.specs.Log10.{logs_of}
 use Rattle.model.specs.Model.{read_of}
 use Rattle.model.specs.declared.Model.{Model}
-use Rattle.model.specs.declared.Reading.{Reading}
-use Rattle.model.specs.declared.Reading.TheVariants.{Good, Refused as Unread}
+use Rattle.model.specs.Reading.{Reading, Good, Refused as Unread}
 use Rattle.model.proofs.Bounds.{refused_in}
 use Rattle.lag.specs.Lag.{own_lag}
 use Rattle.features.specs.Silence.{energy, is_silent}
 use Rattle.frame.specs.Effect.{Effect, refusal, unless}
-use Rattle.frame.specs.declared.Reply.{Reply}
-use Rattle.frame.specs.declared.Reply.TheVariants.{Done, Silent, Heard, Numbered, Refused, Misread}
+use Rattle.frame.specs.Reply.{Reply, Done, Silent, Heard, Numbered, Refused, Misread, passed, ◌refusedIf◌}
 use Rattle.frame.specs.declared.Way.{Way}
 use Rattle.frame.specs.declared.Hearing.{Hearing}
-use Rattle.frame.specs.Reply.{passed, ◌refusedIf◌}
 use Rattle.frame.specs.Share.{SHARE, PART, input_mem, kept_ex}
 use Rattle.frame.specs.Heard.{spoken}
 use Rattle.frame.specs.Frame.{done3, counted, checked, modelled}
@@ -35,7 +32,7 @@ use Rattle.halves.specs.Halves as halves
 use Rattle.pieces.specs.Pieces.{frame_part, waiting_in, waits, frame_at}
 use Rattle.pieces.specs.Pieces as pieces
 use Rattle.pieces.proofs.Kept.{further_reply}
-use Rattle.desk.specs.declared.Answer.{Answer}
+use Rattle.desk.specs.Answer.{Answer}
 use Rattle.desk.specs.declared.Record.{Record}
 use Rattle.desk.specs.Gate.{PIECE, side_of, refusals, gate, share_of}
 use Rattle.desk.specs.Desk.{Ask, opening, call1, call2, call2_own, call3, call4, first_half, second_half, piece, resume}

@@ -15,11 +15,9 @@ use Rattle.rules.specs.Place.{get}
 use Rattle.rules.proofs.Refusals as by-gates
 use Rattle.frame.specs.Written.{Written, all, from, nothing, numbers_in, first_in}
 use Rattle.logs.specs.Log10.{logs_of}
-use Rattle.desk.specs.declared.Answer.{Answer}
+use Rattle.desk.specs.Answer.{Answer}
 use Rattle.frame.specs.Effect.{Effect, refusal}
-use Rattle.frame.specs.declared.Reply.{Reply}
-use Rattle.frame.specs.declared.Reply.TheVariants.{Done, Silent, Heard, Numbered, Refused, Misread}
-use Rattle.frame.specs.Reply.{passed}
+use Rattle.frame.specs.Reply.{Reply, Done, Silent, Heard, Numbered, Refused, Misread, passed}
 use Rattle.pieces.specs.Pieces.{waiting_in, waits, completes, further}
 use Rattle.pieces.specs.Pieces as pieces
 use Rattle.desk.specs.declared.Record.{Record}

@@ -3,23 +3,21 @@
 --     not-its-own         another bench reads it as out of range, and the gate says 2
 -- Assumes nothing.
 use Rattle.std.specs.Prelude.{◌+◌, ◌*◌, ◌<◌, ◌∷◌, ◌≡◌}
-use Rattle.rules.proofs.Common.{ℕ, Bool, true, false, cond, not, List, [], refl, sym, ap, ◌∙◌}
-use Rattle.rules.proofs.Common.{eqb, length, Float}
+use Rattle.rules.proofs.Common.{ℕ, Bool, true, false, cond, not, List, [], refl, ap, ◌∙◌}
+use Rattle.rules.proofs.Common.{eqb, length}
 use native.Mathlib.Omega.{arith}
 use borrow.Author.Tests.{ne_eqb, lt-ltb, eqb-true, eqb-false}
-use Rattle.frame.specs.Effect.{Effect, refusal}
 use Rattle.frame.specs.Reply.{passed}
 use Rattle.frame.specs.Share.{SHARE}
-use Rattle.desk.specs.declared.Answer.{Answer}
 use Rattle.desk.specs.declared.Record.{Record}
 use Rattle.desk.specs.Gate.{in_range, gate}
 use Rattle.desk.specs.Desk.{Ask, opening, record_of, no_hearing, desk}
 use Rattle.desk.specs.Surface.{numbers_of, record_in, handed_back, handed, hosted}
 use Rattle.desk.proofs.Ranged.{left_open}
-use Rattle.isolation.specs.Local.{Local, performed}
+use Rattle.isolation.specs.Local.{performed}
 use Rattle.isolation.specs.Run.{On, on, State, after, ended, desks, expand}
 use Rattle.isolation.proofs.Runs.{way_back}
-use Rattle.surface.specs.Surface.{Call, ask, surface, made_of}
+use Rattle.surface.specs.Surface.{ask, surface, made_of}
 use Rattle.surface.specs.Owner.{OnlyItsOwn}
 use Rattle.surface.proofs.Surfaced.{owned}
 use Rattle.surface.proofs.Expanded.{expands}

@@ -4,9 +4,8 @@ use Rattle.rules.proofs.Common.{ℕ, Bool, false, cond, List, [], refl, ap, ◌�
 use Rattle.frame.specs.Written.{Written}
 use Rattle.frame.proofs.Buffers.{to_none}
 use Rattle.frame.specs.Effect.{Effect}
-use Rattle.frame.specs.declared.Reply.{Reply}
-use Rattle.frame.specs.Reply.{passed}
-use Rattle.desk.specs.declared.Answer.{Answer}
+use Rattle.frame.specs.Reply.{Reply, passed}
+use Rattle.desk.specs.Answer.{Answer}
 use Rattle.desk.specs.Desk.{Ask, opening, call1, call2, call2_own, call3, call4, first_half, second_half, piece, resume}
 use Rattle.desk.specs.Desk.{desk}
 use Rattle.desk.specs.Surface.{numbers_of, record_in, told_besides, besides, hosted, handed_back}

@@ -11,22 +11,19 @@ use Rattle.rules.proofs.Common.{List, [], refl, sym}
 use Rattle.rules.proofs.Common.{ap, ap₂, subst, ◌∙◌, eqb, leb, ltb, length, take as list-take, drop, length-append}
 use Rattle.rules.proofs.Common.{length-drop, Float}
 use native.Mathlib.Omega.{arith}
-use borrow.Author.Tests.{eq-eqb, ne_eqb, le-leb, lt-ltb, eqb-true, eqb-false, ltb-true}
+use borrow.Author.Tests.{eq-eqb, le-leb, lt-ltb, eqb-true, eqb-false, ltb-true}
 use Rattle.rules.specs.Place.{get, put}
 use Rattle.rules.proofs.Places.{Within, length_get, get_put}
 use Rattle.rules.proofs.Tests.{both}
 use Rattle.samples.specs.Samples.{good_sample, good}
 use Rattle.model.specs.Model.{read_of}
 use Rattle.model.specs.declared.Model.{Model}
-use Rattle.model.specs.declared.Reading.{Reading}
-use Rattle.model.specs.declared.Reading.TheVariants.{Good, Refused as Unread}
+use Rattle.model.specs.Reading.{Reading, Good, Refused as Unread}
 use Rattle.frame.specs.Written.{Written, from, nothing, first_in}
 use Rattle.frame.specs.Frame.{counted, checked}
 use Rattle.frame.specs.Effect.{Effect, refusal}
-use Rattle.frame.specs.Reply.{passed}
+use Rattle.frame.specs.Reply.{passed, Reply, Done, Refused}
 use Rattle.frame.specs.Share.{SHARE}
-use Rattle.frame.specs.declared.Reply.{Reply}
-use Rattle.frame.specs.declared.Reply.TheVariants.{Done, Refused}
 use Rattle.frame.specs.declared.Hearing.{Hearing}
 use Rattle.frame.specs.declared.Way.{Way}
 use Rattle.halves.specs.Halves as halves
@@ -36,9 +33,9 @@ use Rattle.pieces.specs.Pieces.{frame_part, waiting_in, waits, completes, piece_
 use Rattle.pieces.proofs.Accepted.{Piece, Resume, piece_taken, resume_taken}
 use Rattle.pieces.proofs.Cases.{piece_by, resume_by}
 use Rattle.pieces.proofs.Shares.{part_length, waiting_length, waits_length, waiting_back, frame_length}
-use Rattle.desk.specs.declared.Answer.{Answer}
+use Rattle.desk.specs.Answer.{Answer}
 use Rattle.desk.specs.declared.Record.{Record}
-use Rattle.desk.specs.Gate.{PIECE, idle, under_way, in_pieces, in_range, is_due, gate, share_of}
+use Rattle.desk.specs.Gate.{PIECE, idle, under_way, in_pieces, in_range, is_due, share_of}
 use Rattle.desk.specs.Desk.{Ask, opening, call1, call2, call2_own, call3, call4, first_half, second_half, piece, resume}
 use Rattle.desk.specs.Desk.{call_of, holding, carried, started, recorded, opened, on_share, desk}
 use Rattle.desk.specs.Laws.{placed, noted}
@@ -57,7 +54,7 @@ use Rattle.whole.proofs.Ranged.{take_by}
 use Rattle.isolation.specs.Isolation.{own}
 use Rattle.isolation.specs.Run.{On, on, State, record_at, after, ended, desks, expand}
 use Rattle.isolation.proofs.Runs.{reads, record_after, store_after}
-use Rattle.feed.specs.Feed.{Block, ROOM, block_size, samples_of}
+use Rattle.feed.specs.Feed.{ROOM, samples_of}
 use Rattle.feed.specs.Surface.{hosted_feed}
 use Rattle.feed.proofs.Ranged.{feed_by}
 use Rattle.surface.specs.Surface.{Call, ask, frame, take, feed, surface, made_of}

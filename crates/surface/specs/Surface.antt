@@ -5,9 +5,8 @@ use Rattle.rules.specs.Common.{ℕ, true, false, cond, List, [], map, eqb, lengt
 use Rattle.rules.specs.Refusals.{refusing}
 use Rattle.frame.specs.Written.{first_in}
 use Rattle.logs.specs.Log10.{logs_of}
-use Rattle.frame.specs.declared.Reply.TheVariants.{Refused, Misread}
+use Rattle.frame.specs.Reply.{Refused, Misread, passed}
 use Rattle.frame.specs.declared.Way.{Way}
-use Rattle.frame.specs.Reply.{passed}
 use Rattle.frame.specs.Share.{SHARE}
 use Rattle.desk.specs.declared.Record.{Record}
 use Rattle.desk.specs.Gate.{BENCHES, PIECE, gate}

@@ -4,7 +4,7 @@
 use Rattle.std.specs.Prelude.{◌+◌, ◌-◌, ◌*◌, ◌/◌, ◌%◌, ◌≤◌, ◌<◌, ◌≡◌}
 use Rattle.rules.proofs.Common.{ℕ, zero, suc, Bool, true, List, refl, sym, ◌∙◌}
 use Rattle.rules.proofs.Common.{ltb, T, Float, binary32}
-use native.Mathlib.Nat.{add-mul, mul-add, mul_assoc, mul_left_comm, mul-add-mod_self_left}
+use native.Mathlib.Nat.{add-mul, mul-add, mul_assoc, mul_left_comm}
 use native.Mathlib.Omega.{arith}
 use lib.Dec.{ltb→lt}
 use lib.Ieee.{fits}
@@ -15,10 +15,9 @@ use Rattle.rules.proofs.Loops.{more, range_more}
 use Rattle.transforms.specs.Cosine.{cosine}
 use Rattle.transforms.specs.Transform.{wave, forward_step, inverse_step}
 use Rattle.transforms.specs.Private.{four_of, both, plus_term, Lane, ahead, back, index, quarters, sums_of}
-use Rattle.transforms.specs.Private.{plus_terms, Reached, places, bin_lane, bin_part, sample_lane, sample_part}
+use Rattle.transforms.specs.Private.{plus_terms, bin_lane, bin_part, sample_lane, sample_part}
 use Rattle.transforms.specs.Private.{whole_part}
 use Rattle.transforms.specs.declared.lanes.Four.{Four}
-use Rattle.transforms.specs.declared.lanes.Places.{Places}
 use Rattle.transforms.specs.declared.lanes.Sums.{Sums}
 use Rattle.floats.specs.Plain.{plain}
 use Rattle.transforms.proofs.Quarters.{same, mirror, half}
@@ -34,29 +33,25 @@ four_same f g k h =
 
 -- ---- a term counts by its quarters' remainder
 module _ (w : ℕ) (s p q : Four) where
-  pub none_on : w % 4 ≡ 0 → both ◌⊕◌ s p ≡ plus_term w s p q
+  none_on : w % 4 ≡ 0 → both ◌⊕◌ s p ≡ plus_term w s p q
   unfolding plus_term
   none_on e = rw e
 
-  pub one_on : w % 4 ≡ 1 → both ◌⊕◌ s q ≡ plus_term w s p q
+  one_on : w % 4 ≡ 1 → both ◌⊕◌ s q ≡ plus_term w s p q
   unfolding plus_term
   one_on e = rw e
 
-  pub two_on : w % 4 ≡ 2 → both ◌⊖◌ s p ≡ plus_term w s p q
+  two_on : w % 4 ≡ 2 → both ◌⊖◌ s p ≡ plus_term w s p q
   unfolding plus_term
   two_on e = rw e
 
-  pub three_on : w % 4 ≡ 3 → both ◌⊖◌ s q ≡ plus_term w s p q
+  three_on : w % 4 ≡ 3 → both ◌⊖◌ s q ≡ plus_term w s p q
   unfolding plus_term
   three_on e = rw e
 
   pub by_rest : (u : ℕ) → w % 4 ≡ u % 4 → plus_term w s p q ≡ plus_term u s p q
   unfolding plus_term
   by_rest u e = rw e
-
-pub thrice : (w t : ℕ) → w % 4 ≡ t → (3 * w) % 4 ≡ (3 * t) % 4
-thrice w t e = let split : 3 * w ≡ 4 * (3 * (w / 4)) + 3 * t = omega arith in
-    rw split (mul-add-mod_self_left 4 (3 * (w / 4)) (3 * t))
 
 -- ---- for four neighbours: the products of v, at term n and a quarter on
 module _ (v : Float) (k n : ℕ) where
@@ -189,7 +184,7 @@ module _ (x : List Float) (held : T (fits binary32 (at x 0))) (n : ℕ) (small :
       stepped sample_lane (λ i. 0) grounds (at x 959) n 480 0 small refl (sample_part x 480) (whole_part x)
       (λ l i. (sound 480 l i).is_plain) (λ l i. refl)
 
--- ---- where a run begins, and further on
+-- ---- where a run begins
 pub forward_start : (x : List Float) (k : ℕ) → sums_of (λ s i. f32 0) 0 ≡ sums_of (bin_part x 0) k
 unfolding sums_of loop
 forward_start x k = refl
@@ -197,8 +192,3 @@ forward_start x k = refl
 pub inverse_start : (x : List Float) (n : ℕ) → sums_of (λ s i. f32 0 ⊕ at x 0) 0 ≡ sums_of (sample_part x 1) n
 unfolding sums_of range loop
 inverse_start x n = refl
-
-pub onward : {f : ℕ → ℕ → ℕ → Float} {table : List Float} {k n i : ℕ} {s t : Sums} {m l : Places}
-    → Reached f table k n s m → t ≡ sums_of (f i) k
-    → l ≡ places k i → Reached f table k i t l
-onward r sums here = record { by = r.by; small = r.small; sums = sums; here = here }

@@ -1,14 +1,12 @@
 -- For the contracts of private functions: how the sums are shared. The indices k, 240 * i + k and 240 * i - k have the
 -- same products except for their signs. So eight sums are kept at a time, and each for four neighbours.
-use Rattle.std.specs.Prelude.{◌+◌, ◌-◌, ◌*◌, ◌/◌, ◌%◌, ◌<◌, ◌∷◌, ◌≡◌}
+use Rattle.std.specs.Prelude.{◌+◌, ◌-◌, ◌*◌, ◌/◌, ◌%◌, ◌∷◌, ◌≡◌}
 use Rattle.rules.specs.Common.{ℕ, cond, List, [], eqb, get_or, take, Float}
 use Rattle.rules.specs.Loop.{loop, range}
 use Rattle.rules.specs.Tab.{tab}
 use Rattle.rules.specs.F32.{◌⊕◌, ◌⊖◌, at, f32}
-use Rattle.transforms.specs.Cosine.{cosine}
 use Rattle.transforms.specs.Transform.{forward_step, inverse_step, sample}
 use Rattle.transforms.specs.declared.lanes.Four.{Four}
-use Rattle.transforms.specs.declared.lanes.Places.{Places}
 use Rattle.transforms.specs.declared.lanes.Sums.{Sums}
 
 -- ---- four neighbours
@@ -19,10 +17,6 @@ four_of f k = record { a = f k; b = f (k + 1); c = f (k + 2); d = f (k + 3) }
 -- An operation on each of the four.
 abbrev pub both : (Float → Float → Float) → Four → Four → Four
 both op x y = record { a = op x.a y.a; b = op x.b y.b; c = op x.c y.c; d = op x.d y.d }
-
--- The places of k * n to (k + 3) * n in the turn.
-unfoldable pub places : ℕ → ℕ → Places
-places k n = record { a = (k * n) % 960; b = ((k + 1) * n) % 960; c = ((k + 2) * n) % 960; d = ((k + 3) * n) % 960 }
 
 -- The cosines of one and a quarter turns, so that the place a quarter further needs no remainder.
 abbrev pub extended : List Float → List Float
@@ -73,13 +67,6 @@ plus_terms lane part j s p q =
       s6 = of 6 s.s6;
       s7 = of 7 s.s7;
     }
-
--- The sums f n after n terms, and the places of the next term.
-pub record Reached (f : ℕ → ℕ → ℕ → Float) (table : List Float) (k n : ℕ) (s : Sums) (m : Places) : Type 0 where
-  pub by : table ≡ extended cosine
-  pub small : k < 124
-  pub sums : s ≡ sums_of (f n) k
-  pub here : m ≡ places k n
 
 -- The sum that is kept at i.
 abbrev pub kept : (ℕ → ℕ → Float) → ℕ → Float

@@ -1,11 +1,12 @@
 // The forward sums: the bins k, 480 - k, 240 + k and 240 - k, each with its two parts.
 ghost use Rattle.std.specs.Prelude.{◌≡◌, ◌+◌, ◌*◌, ◌%◌, ◌≤◌, ◌<◌, length, List, Float};
 ghost use Rattle.rules.specs.Spectrum.{bin_of};
-ghost use Rattle.transforms.specs.Cosine.{cosine};
 ghost use Rattle.transforms.specs.Transform.{bin, part_of, forward_of};
-ghost use Rattle.transforms.specs.Private.{extended, plus_terms, sums_of, Reached, kept, Keeps, bin_lane, bin_part};
+ghost use Rattle.transforms.specs.Private.{plus_terms, sums_of, kept, Keeps, bin_lane, bin_part};
 
-use crate::lanes::{Four, Places, Run, Sums, ahead, all_of, back, next, put, read, spot, times};
+use crate::lanes::{Four, Sums, ahead, all_of, back, put, spot, times};
+use crate::places::Places;
+use crate::table::Cosines;
 
 // Adds term n to each sum; n is j more than a multiple of 4.
 fn add_terms(s: Sums, p: Four, q: Four, j: usize) -> Sums
@@ -24,64 +25,73 @@ fn add_terms(s: Sums, p: Four, q: Four, j: usize) -> Sums
     }
 }
 
-// Adds sample n to each sum.
-fn step(s: Sums, x: &[f32], table: &[f32; 1200], m: Places, k: usize, n: usize, j: usize) -> Sums
-    requires x_len { (length x.now ≡ 960) × (n < 960) × (n % 4 ≡ j) }
-    requires reached { Reached (bin_part x.now) table.now k n s m }
-    ensures { result ≡ sums_of (bin_part x.now (n + 1)) k }
-{
-    let v = x[n];
-    let p = times(v, read(table, m, k, n, 0));
-    let q = times(v, read(table, m, k, n, 240));
-    add_terms(s, p, q, j)
+// The sums of four neighbours after the first samples.
+// Stays: samples::Run is alike, but a step of it reads two numbers and turns them apart. A trait of both would say
+// what a step adds in ghost members, which is no plainer.
+#[derive(Drop)]
+struct Run<'a> {
+    // The samples.
+    x: &'a [f32; 960],
+    // The cosines.
+    table: &'a Cosines,
+    // The places of the next sample.
+    m: Places,
+    // The sums of the samples before it.
+    s: Sums,
+    ghost sums: { s ≡ sums_of (bin_part x.now m.n) m.k },
 }
 
-// Adds four samples to each sum.
-fn four_steps(t: Run, x: &[f32], table: &[f32; 1200], k: usize, n: usize) -> Run
-    requires x_len { (length x.now ≡ 960) × (n + 4 ≤ 960) × (n % 4 ≡ 0) }
-    requires reached { Reached (bin_part x.now) table.now k n t.s t.m }
-    ensures { Reached (bin_part x.now) table.now k (n + 1 + 1 + 1 + 1) result.s result.m }
-{
-    let b = n + 1;
-    let c = b + 1;
-    let d = c + 1;
-    let sa = step(t.s, x, table, t.m, k, n, 0);
-    let ma = next(t.m, k, n);
-    let sb = step(sa, x, table, ma, k, b, 1);
-    let mb = next(ma, k, b);
-    let sc = step(sb, x, table, mb, k, c, 2);
-    let mc = next(mb, k, c);
-    let sd = step(sc, x, table, mc, k, d, 3);
-    let md = next(mc, k, d);
-    Run { s: sd, m: md }
+impl<'a> Run<'a> {
+    // The sums of no samples.
+    fn begin(x: &'a [f32; 960], table: &'a Cosines, k: usize) -> Run<'a>
+        requires { k < 124 }
+        ensures { (result.x.now ≡ x.now) × (result.m.k ≡ k) × (result.m.n ≡ 0) }
+    {
+        Run {
+            x,
+            table,
+            m: Places::of_0(k),
+            s: all_of(0.0),
+        }
+    }
+
+    // Adds the next sample to each sum. It is j more than a multiple of 4.
+    fn step(self, j: usize) -> Run<'a>
+        requires { (self.m.n < 960) × (self.m.n % 4 ≡ j) }
+        ensures same { result.x.now ≡ self.entry.x.now }
+        ensures next { (result.m.k ≡ self.entry.m.k) × (result.m.n ≡ self.entry.m.n + 1) }
+    {
+        let Run { x, table, m, s } = self;
+        let v = x[m.n];
+        let p = times(v, table.read(m, 0));
+        let q = times(v, table.read(m, 240));
+        Run {
+            x,
+            table,
+            m: m.next(),
+            s: add_terms(s, p, q, j),
+        }
+    }
 }
 
 // The sums of the bins that belong to k, k + 1, k + 2 and k + 3.
-fn four_bins(x: &[f32], table: &[f32; 1200], k: usize) -> Sums
-    requires { (length x.now ≡ 960) × (table.now ≡ extended cosine) × (k < 124) }
+// Stays: the run says by its own place whether samples are left, so a loop that counts beside it is no plainer.
+fn four_bins(x: &[f32; 960], table: &Cosines, k: usize) -> Sums
+    requires { k < 124 }
     ensures { result ≡ sums_of (bin_part x.now 960) k }
 {
-    let mut t = Run {
-        s: all_of(0.0),
-        m: Places {
-            a: 0,
-            b: 0,
-            c: 0,
-            d: 0,
-        },
-    };
-    for i in 0..240 {
-        t = four_steps(t, x, table, k, 4 * i);
+    let mut run = Run::begin(x, table, k);
+    while run.m.n < 960 {
+        run = run.step(0).step(1).step(2).step(3);
     }
-    t.s
+    run.s
 }
 
 // The sums for k = 0 to 123. Those of 121 to 123 are computed twice, which is cheaper than a shorter block.
-pub(crate) fn all_bins(parts: &mut [f32], x: &[f32], table: &[f32; 1200])
-    requires parts_len { length parts.old ≡ 992 }
-    requires x_len { (length x.now ≡ 960) × (table.now ≡ extended cosine) }
+pub(crate) fn all_bins(parts: &mut [f32; 992], x: &[f32; 960], table: &Cosines)
     ensures { Keeps (bin_part x.now 960) 992 parts.new }
 {
+    // Stays: g is counted with, for the neighbours and for their place, so an iterator is no plainer.
     for g in 0..31 {
         let s = four_bins(x, table, 4 * g);
         put(parts, 32 * g, s);
@@ -89,17 +99,16 @@ pub(crate) fn all_bins(parts: &mut [f32], x: &[f32], table: &[f32; 1200])
 }
 
 // 1 for an imaginary part, 0 for a real one.
+// Stays: a number, since `bin_spot` adds it to that of a sum. An enum of the two parts is no plainer.
 fn part_of(j: usize) -> usize
     requires { j < 961 }
     ensures { (240 * result ≡ part_of j) × (result ≤ 1) }
 {
-    if j == 0 {
-        return 0;
-    }
-    if j % 2 == 1 { 0 } else { 1 }
+    if j == 0 || j % 2 == 1 { 0 } else { 1 }
 }
 
 // Where number j of the spectrum is kept.
+// Stays: each test goes on from the one before, so a match of ranges, with both ends of each, is no plainer.
 fn bin_spot(j: usize) -> usize
     requires { j < 961 }
     ensures { (result < 992) × ((x : List Float) → kept (bin_part x 960) result ≡ bin x (bin_of j) (part_of j)) }
@@ -119,12 +128,11 @@ fn bin_spot(j: usize) -> usize
 }
 
 // Puts all sums into their places in the spectrum.
-pub(crate) fn spread(out: &mut [f32], parts: &[f32; 992])
-    requires { length out.old ≡ 961 }
+pub(crate) fn spread(out: &mut [f32; 961], parts: &[f32; 992])
     ensures { (x : List Float) → Keeps (bin_part x 960) 992 parts.now
         → out.new ≡ forward_of x }
 {
-    for j in 0..961 {
-        out[j] = parts[bin_spot(j)];
+    for (j, y) in out.iter_mut().enumerate() {
+        *y = parts[bin_spot(j)];
     }
 }

@@ -4,11 +4,10 @@
 ghost use Rattle.std.specs.Prelude.{◌≡◌, ℕ, ◌+◌, ◌*◌, ◌%◌, ◌≤◌, ◌<◌, length, take, Float};
 ghost use Rattle.rules.specs.F32.{◌⊕◌, ◌⊖◌, ◌⊗◌};
 ghost use Rattle.rules.specs.Tab.{tab};
-ghost use Rattle.transforms.specs.Cosine.{cosine};
-ghost use Rattle.transforms.specs.Transform.{wave};
-ghost use Rattle.transforms.specs.Private.{four_of, both, plus_term, places, extended, sums_of, kept, Keeps};
+ghost use Rattle.transforms.specs.Private.{four_of, both, plus_term, sums_of, kept, Keeps};
 
 // A number for each of four neighbours.
+// Stays: in an array each would be named by its place, which is no plainer.
 #[derive(Clone, Copy)]
 pub(crate) struct Four {
     pub a: f32,
@@ -17,16 +16,9 @@ pub(crate) struct Four {
     pub d: f32,
 }
 
-// A place in the table for each of four neighbours.
-#[derive(Clone, Copy)]
-pub(crate) struct Places {
-    pub a: usize,
-    pub b: usize,
-    pub c: usize,
-    pub d: usize,
-}
-
 // Eight sums for each of four neighbours.
+// Stays: each sum turns in a way of its own (bins and samples, add_terms), so in an array the places would only be
+// other names for them, which is no plainer.
 #[derive(Drop)]
 pub(crate) struct Sums {
     pub s0: Four,
@@ -37,13 +29,6 @@ pub(crate) struct Sums {
     pub s5: Four,
     pub s6: Four,
     pub s7: Four,
-}
-
-// The sums after some terms, and the places of the next.
-#[derive(Drop)]
-pub(crate) struct Run {
-    pub s: Sums,
-    pub m: Places,
 }
 
 // Adds four numbers to four.
@@ -84,40 +69,35 @@ pub(crate) fn times(v: f32, y: Four) -> Four
 
 // The next term of sums w quarters on, of the indices ahead: by the products p, and q a quarter on. The callers' w is
 // known when it is compiled.
+// Stays: w is calculated by the callers, here and in `back`, so an enum of four quarters would first have to be made of
+// it, and is no plainer.
+#[tactic(auto, unfolding(crate::specs::Private::plus_term))]
 pub(crate) fn ahead(s: Four, p: Four, q: Four, w: usize) -> Four
     ensures { result ≡ plus_term w s p q }
 {
-    let t = w % 4;
-    if t == 0 {
-        return plus(s, p);
+    match w % 4 {
+        0 => plus(s, p),
+        1 => plus(s, q),
+        2 => less(s, p),
+        _ => less(s, q),
     }
-    if t == 1 {
-        return plus(s, q);
-    }
-    if t == 2 {
-        return less(s, p);
-    }
-    less(s, q)
 }
 
 // The same of the indices back from there.
+#[tactic(auto, unfolding(crate::specs::Private::plus_term))]
 pub(crate) fn back(s: Four, p: Four, q: Four, w: usize) -> Four
     ensures { result ≡ plus_term (3 * w) s p q }
 {
-    let t = w % 4;
-    if t == 0 {
-        return plus(s, p);
+    match w % 4 {
+        0 => plus(s, p),
+        1 => less(s, q),
+        2 => less(s, p),
+        _ => plus(s, q),
     }
-    if t == 1 {
-        return less(s, q);
-    }
-    if t == 2 {
-        return less(s, p);
-    }
-    plus(s, q)
 }
 
 // Sums that are all v.
+#[tactic(auto, unfolding(crate::specs::Private::sums_of))]
 pub(crate) fn all_of(v: f32) -> Sums
     ensures { result ≡ sums_of (λ s k. v) 0 }
 {
@@ -139,57 +119,10 @@ pub(crate) fn all_of(v: f32) -> Sums
     }
 }
 
-// A place that may be after the end of the turn, as one within it.
-fn wrapped(m: usize) -> usize
-    requires { m < 1920 }
-    ensures { result ≡ m % 960 }
-{
-    if 960 <= m { m - 960 } else { m }
-}
-
-// From the places of k * n to those of k * (n + 1).
-pub(crate) fn next(m: Places, k: usize, n: usize) -> Places
-    requires { (m ≡ places k n) × (k < 124) }
-    ensures { result ≡ places k (n + 1) }
-{
-    Places {
-        a: wrapped(m.a + k),
-        b: wrapped(m.b + (k + 1)),
-        c: wrapped(m.c + (k + 2)),
-        d: wrapped(m.d + (k + 3)),
-    }
-}
-
-// The cosines at the places of k * n, or a quarter further.
-pub(crate) fn read(table: &[f32; 1200], m: Places, k: usize, n: usize, quarter: usize) -> Four
-    requires { (table.now ≡ extended cosine) × (m ≡ places k n) × (quarter ≤ 240) }
-    ensures { result ≡ four_of (λ i. wave i n quarter) k }
-{
-    let a = m.a + quarter;
-    let b = m.b + quarter;
-    let c = m.c + quarter;
-    let d = m.d + quarter;
-    Four {
-        a: table[a],
-        b: table[b],
-        c: table[c],
-        d: table[d],
-    }
-}
-
-// The cosines of one and a quarter turns.
-pub(crate) fn extend(table: &mut [f32], cosine: &[f32; 960])
-    requires { length table.old ≡ 1200 }
-    ensures { table.new ≡ extended cosine.now }
-{
-    for i in 0..1200 {
-        table[i] = cosine[i % 960];
-    }
-}
-
 // Stores the next four numbers of a list.
-fn put_four(parts: &mut [f32], at: usize, v: Four)
-    requires { (length parts.old ≡ 992) × (at + 4 ≤ 992) }
+#[tactic(auto, using(crate::proofs::Stored::four_stored))]
+fn put_four(parts: &mut [f32; 992], at: usize, v: Four)
+    requires { at + 4 ≤ 992 }
     ensures { (f : ℕ → Float) → v ≡ four_of f at
         → take at parts.old ≡ tab at f → take (at + 4) parts.new ≡ tab (at + 4) f }
 {
@@ -200,8 +133,8 @@ fn put_four(parts: &mut [f32], at: usize, v: Four)
 }
 
 // Stores the sums of the next four neighbours.
-pub(crate) fn put(parts: &mut [f32], at: usize, s: Sums)
-    requires { (length parts.old ≡ 992) × (at + 32 ≤ 992) }
+pub(crate) fn put(parts: &mut [f32; 992], at: usize, s: Sums)
+    requires { at + 32 ≤ 992 }
     ensures { (f : ℕ → ℕ → Float) (g : ℕ) → at ≡ 32 * g → s ≡ sums_of f (4 * g)
         → Keeps f at parts.old → Keeps f (at + 32) parts.new }
 {
@@ -223,6 +156,8 @@ pub(crate) fn put(parts: &mut [f32], at: usize, s: Sums)
 }
 
 // Where sum s of neighbour k is kept.
+// Stays: `k < 124` is asked here, and by Places::of_0, bins::Run::begin and bins::four_bins. A `Places` has it as a
+// fact, but these come before there is one, or need none, so one in place of k is no plainer.
 pub(crate) fn spot(s: usize, k: usize) -> usize
     requires { (s < 8) × (k < 124) }
     ensures { (result < 992) × ((f : ℕ → ℕ → Float) → kept f result ≡ f s k) }

@@ -1,11 +1,16 @@
 // The sums of the inverse: the samples n, 960 - n, 480 + n, 480 - n, 240 + n, 240 - n, 720 + n and 720 - n.
 ghost use Rattle.std.specs.Prelude.{◌≡◌, ◌+◌, ◌*◌, ◌%◌, ◌≤◌, ◌<◌, length, List, Float};
-ghost use Rattle.transforms.specs.Cosine.{cosine};
+ghost use Rattle.std.specs.Prelude.{T};
+ghost use Rattle.std.specs.Float.Ieee.{fits};
+ghost use Rattle.rules.specs.Common.{binary32};
+ghost use Rattle.rules.specs.F32.{at};
 ghost use Rattle.transforms.specs.Transform.{sample, inverse_of};
-ghost use Rattle.transforms.specs.Private.{extended, plus_terms, sums_of, Reached, kept, Keeps, sample_lane};
+ghost use Rattle.transforms.specs.Private.{plus_terms, sums_of, kept, Keeps, sample_lane};
 ghost use Rattle.transforms.specs.Private.{sample_part, whole_part};
 
-use crate::lanes::{Four, Places, Run, Sums, ahead, all_of, back, next, put, read, spot, times};
+use crate::lanes::{Four, Sums, ahead, all_of, back, put, spot, times};
+use crate::places::Places;
+use crate::table::Cosines;
 
 // Adds the real part (r = 0) or the imaginary part (r = 1) of a bin to each sum; the bin is j more than a multiple of
 // 4.
@@ -25,94 +30,89 @@ fn add_terms(s: Sums, p: Four, q: Four, j: usize, r: usize) -> Sums
     }
 }
 
-// Adds bin k, twice, to each sum.
-fn step(s: Sums, x: &[f32], table: &[f32; 1200], m: Places, n: usize, k: usize, j: usize) -> Sums
-    requires x_len { (length x.now ≡ 961) × (0 < k) × (k < 480) × (k % 4 ≡ j) }
-    requires reached { Reached (sample_part x.now) table.now n k s m }
-    ensures { result ≡ sums_of (sample_part x.now (k + 1)) n }
-{
-    let i = 2 * k;
-    let v = 2.0 * x[i - 1];
-    let w = 2.0 * x[i];
-    let p = read(table, m, n, k, 0);
-    let q = read(table, m, n, k, 240);
-    let h = add_terms(s, times(v, p), times(v, q), j, 0);
-    add_terms(h, times(w, p), times(w, q), j, 1)
+// The sums of four neighbours with the first bins.
+#[derive(Drop)]
+struct Run<'a> {
+    // The spectrum.
+    // A slice: of an array's numbers, proofs don't know that they are of f32.
+    x: &'a [f32],
+    // The cosines.
+    table: &'a Cosines,
+    // The places of the next bin. Here n is the bin, and k a sample.
+    m: Places,
+    // The sums of the bins before it.
+    s: Sums,
+    ghost long: { length x.now ≡ 961 },
+    ghost held: { T (fits binary32 (at x.now 0)) },
+    ghost sums: { s ≡ sums_of (sample_part x.now m.n) m.k },
 }
 
-// Adds the real part of bin 480, once, to each sum.
-fn last_step(s: Sums, x: &[f32], table: &[f32; 1200], m: Places, n: usize) -> Sums
-    requires x_len { length x.now ≡ 961 }
-    requires reached { Reached (sample_part x.now) table.now n 480 s m }
-    ensures { result ≡ sums_of (whole_part x.now) n }
-{
-    let v = x[959];
-    let p = times(v, read(table, m, n, 480, 0));
-    let q = times(v, read(table, m, n, 480, 240));
-    add_terms(s, p, q, 0, 0)
-}
+impl<'a> Run<'a> {
+    // The sums of bin 0.
+    fn begin(x: &'a [f32], table: &'a Cosines, n: usize) -> Run<'a>
+        requires { (length x.now ≡ 961) × (n < 124) }
+        ensures { (result.x.now ≡ x.now) × (result.m.k ≡ n) × (result.m.n ≡ 1) }
+    {
+        Run {
+            x,
+            table,
+            m: Places::of_0(n).next(),
+            s: all_of(0.0 + x[0]),
+        }
+    }
 
-// Adds four bins to each sum.
-fn four_steps(t: Run, x: &[f32], table: &[f32; 1200], n: usize, k: usize) -> Run
-    requires x_len { (length x.now ≡ 961) × (k + 4 ≤ 480) × (k % 4 ≡ 1) }
-    requires reached { Reached (sample_part x.now) table.now n k t.s t.m }
-    ensures { Reached (sample_part x.now) table.now n (k + 1 + 1 + 1 + 1) result.s result.m }
-{
-    let b = k + 1;
-    let c = b + 1;
-    let d = c + 1;
-    let sa = step(t.s, x, table, t.m, n, k, 1);
-    let ma = next(t.m, n, k);
-    let sb = step(sa, x, table, ma, n, b, 2);
-    let mb = next(ma, n, b);
-    let sc = step(sb, x, table, mb, n, c, 3);
-    let mc = next(mb, n, c);
-    let sd = step(sc, x, table, mc, n, d, 0);
-    let md = next(mc, n, d);
-    Run { s: sd, m: md }
-}
+    // Adds the next bin, twice, to each sum. It is j more than a multiple of 4.
+    fn step(self, j: usize) -> Run<'a>
+        requires { (0 < self.m.n) × (self.m.n < 480) × (self.m.n % 4 ≡ j) }
+        ensures same { result.x.now ≡ self.entry.x.now }
+        ensures next { (result.m.k ≡ self.entry.m.k) × (result.m.n ≡ self.entry.m.n + 1) }
+    {
+        let Run { x, table, m, s } = self;
+        let i = 2 * m.n;
+        let v = 2.0 * x[i - 1];
+        let w = 2.0 * x[i];
+        let p = table.read(m, 0);
+        let q = table.read(m, 240);
+        let h = add_terms(s, times(v, p), times(v, q), j, 0);
+        Run {
+            x,
+            table,
+            m: m.next(),
+            s: add_terms(h, times(w, p), times(w, q), j, 1),
+        }
+    }
 
-// Adds bins 477 to 480.
-fn last_steps(t: Run, x: &[f32], table: &[f32; 1200], n: usize) -> Sums
-    requires x_len { length x.now ≡ 961 }
-    requires reached { Reached (sample_part x.now) table.now n 477 t.s t.m }
-    ensures { result ≡ sums_of (whole_part x.now) n }
-{
-    let sa = step(t.s, x, table, t.m, n, 477, 1);
-    let ma = next(t.m, n, 477);
-    let sb = step(sa, x, table, ma, n, 478, 2);
-    let mb = next(ma, n, 478);
-    let sc = step(sb, x, table, mb, n, 479, 3);
-    let mc = next(mb, n, 479);
-    last_step(sc, x, table, mc, n)
+    // Adds the real part of bin 480, once, to each sum.
+    fn end(self) -> Sums
+        requires { self.m.n ≡ 480 }
+        ensures { result ≡ sums_of (whole_part self.entry.x.now) self.entry.m.k }
+    {
+        let Run { x, table, m, s } = self;
+        let v = x[959];
+        let p = times(v, table.read(m, 0));
+        let q = times(v, table.read(m, 240));
+        add_terms(s, p, q, 0, 0)
+    }
 }
 
 // The sums of the samples that belong to n, n + 1, n + 2 and n + 3.
-fn four_samples(x: &[f32], table: &[f32; 1200], n: usize) -> Sums
-    requires { (length x.now ≡ 961) × (table.now ≡ extended cosine) × (n < 124) }
+// Stays: the run says by its own place whether bins are left, so a loop that counts beside it is no plainer.
+fn four_samples(x: &[f32; 961], table: &Cosines, n: usize) -> Sums
+    requires { n < 124 }
     ensures { result ≡ sums_of (whole_part x.now) n }
 {
-    let mut t = Run {
-        s: all_of(0.0 + x[0]),
-        m: Places {
-            a: n,
-            b: n + 1,
-            c: n + 2,
-            d: n + 3,
-        },
-    };
-    for i in 0..119 {
-        t = four_steps(t, x, table, n, 4 * i + 1);
+    let mut run = Run::begin(x, table, n);
+    while run.m.n < 477 {
+        run = run.step(1).step(2).step(3).step(0);
     }
-    last_steps(t, x, table, n)
+    run.step(1).step(2).step(3).end()
 }
 
 // All sums.
-pub(crate) fn all_samples(parts: &mut [f32], x: &[f32], table: &[f32; 1200])
-    requires parts_len { length parts.old ≡ 992 }
-    requires x_len { (length x.now ≡ 961) × (table.now ≡ extended cosine) }
+pub(crate) fn all_samples(parts: &mut [f32; 992], x: &[f32; 961], table: &Cosines)
     ensures { Keeps (whole_part x.now) 992 parts.new }
 {
+    // Stays: g is counted with, for the neighbours and for their place, so an iterator is no plainer.
     for g in 0..31 {
         let s = four_samples(x, table, 4 * g);
         put(parts, 32 * g, s);
@@ -120,6 +120,7 @@ pub(crate) fn all_samples(parts: &mut [f32], x: &[f32], table: &[f32; 1200])
 }
 
 // Where sample n is kept.
+// Stays: each test goes on from the one before, so a match of ranges, with both ends of each, is no plainer.
 fn sample_spot(n: usize) -> usize
     requires { n < 960 }
     ensures { (result < 992) × ((x : List Float) → kept (whole_part x) result ≡ sample x n) }
@@ -149,12 +150,11 @@ fn sample_spot(n: usize) -> usize
 }
 
 // Puts all sums into their places.
-pub(crate) fn spread(out: &mut [f32], parts: &[f32; 992])
-    requires { length out.old ≡ 960 }
+pub(crate) fn spread(out: &mut [f32; 960], parts: &[f32; 992])
     ensures { (x : List Float) → Keeps (whole_part x) 992 parts.now
         → out.new ≡ inverse_of x }
 {
-    for n in 0..960 {
-        out[n] = parts[sample_spot(n)];
+    for (n, y) in out.iter_mut().enumerate() {
+        *y = parts[sample_spot(n)];
     }
 }

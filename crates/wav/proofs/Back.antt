@@ -11,7 +11,7 @@ use Rattle.wav.specs.Chunks.{from_two, unread, front_of, tag_in, format_of, form
 use Rattle.wav.specs.Head.{head_of}
 use Rattle.wav.specs.Laws.{follow, HeadBack}
 use Rattle.wav.specs.declared.chunks.Head.{Head}
-use Rattle.wav.specs.declared.chunks.Step.TheVariants.{Audio, On}
+use Rattle.wav.specs.Chunks.{Audio, On}
 
 -- a number of 32 bits is its four bytes
 four_bytes : (n : ℕ) → n < 2 ^ 32

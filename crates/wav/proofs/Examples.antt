@@ -13,8 +13,8 @@ use Rattle.wav.specs.Laws.{follow}
 use Rattle.sides.specs.declared.Side.TheVariants.{Right}
 use Rattle.wav.specs.declared.seal.Word.TheVariants.{Ends}
 use Rattle.wav.specs.declared.seal.Seal.{Seal}
-use Rattle.wav.specs.declared.seal.Reading.TheVariants as reading
-use Rattle.wav.specs.declared.chunks.Step.TheVariants.{Audio, Refused}
+use Rattle.wav.specs.Seal as reading
+use Rattle.wav.specs.Chunks.{Audio, Refused}
 
 -- the right side, 960 bytes of audio
 abbrev right : Seal

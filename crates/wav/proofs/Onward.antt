@@ -9,8 +9,8 @@ use Rattle.sheet.specs.End.{from_four}
 use Rattle.wav.specs.Chunks.{RIFF, WAVE, FMT, DATA, front_of, format_faults, formatted, chunk_of, step_of}
 use Rattle.wav.specs.Laws.{Onward}
 use Rattle.wav.specs.declared.chunks.Head.{Head}
-use Rattle.wav.specs.declared.chunks.Step.{Step}
-use Rattle.wav.specs.declared.chunks.Step.TheVariants.{Audio, On, Refused}
+use Rattle.wav.specs.Chunks.{Step}
+use Rattle.wav.specs.Chunks.{Audio, On, Refused}
 
 -- where a step goes on, its place is at least this far
 data From (least : ℕ) : Step → Type 0 where

@@ -1,6 +1,6 @@
 -- What is written reads back as the seal that it was, and with the other side's letters in their place as none.
 -- Assumes nothing.
-use Rattle.std.specs.Prelude.{◌/◌, ◌^◌, ◌≤◌, ◌<◌, ◌∷◌, ◌++◌, ◌≡◌}
+use Rattle.std.specs.Prelude.{Option, Some, None, ◌/◌, ◌^◌, ◌≤◌, ◌<◌, ◌∷◌, ◌++◌, ◌≡◌}
 use Rattle.rules.proofs.Common.{ℕ, Bool, true, false, List, []}
 use Rattle.rules.proofs.Common.{refl, sym}
 use Rattle.rules.proofs.Common.{ap, ◌∙◌, eqb, length, take, drop, length-append}
@@ -17,8 +17,6 @@ use Rattle.sides.specs.Sides.{letters_of, of_number, of_letters}
 use Rattle.sides.proofs.Back.{letters_back, number_only}
 use Rattle.sides.specs.declared.Side.{Side}
 use Rattle.sides.specs.declared.Side.TheVariants.{Left, Right}
-use Rattle.sides.specs.declared.Meant.{Meant}
-use Rattle.sides.specs.declared.Meant.TheVariants.{Means, Nothing}
 use Rattle.sheet.specs.Sheet.{four}
 use Rattle.sheet.specs.End.{from_four}
 use Rattle.sheet.proofs.Digits.{four_read}
@@ -29,7 +27,7 @@ use Rattle.wav.specs.Laws.{OtherWord}
 use Rattle.wav.specs.declared.seal.Word.{Word}
 use Rattle.wav.specs.declared.seal.Word.TheVariants.{Begins, Ends}
 use Rattle.wav.specs.declared.seal.Seal.{Seal}
-use Rattle.wav.specs.declared.seal.Reading.TheVariants.{Whole, Refused}
+use Rattle.wav.specs.Seal.{Whole, Refused}
 use Rattle.wav.proofs.Seals.{at_51', at_52, at_whole, length_said}
 
 -- a number of 32 bits by its four bytes
@@ -143,16 +141,16 @@ other_word_lem Ends x rest =
 
 module _ (w : Word) (side l s : ℕ) (out after rest numbers : List ℕ) (hl : l < 2 ^ 64) (hs : s < 2 ^ 32)
     (three : length numbers ≡ 3) where
-  by_side : (m : Meant) → of_number side ≡ m → (0 leaving after) ≡ laid_for w m l s out
+  by_side : (m : Option Side) → of_number side ≡ m → (0 leaving after) ≡ laid_for w m l s out
       → seal_summary w (after ++ rest) numbers ≡ (0 leaving side ∷ l ∷ s ∷ [])
   unfolding seal_summary
-  by_side (Means known) e a =
+  by_side (Some known) e a =
       let x : Seal = record { side = known; long = l; short = s } in
       let bytes : after ≡ seal_of w x = ap (λ (p : ℕ × List ℕ). p.1) a in
       let back : seal_read w (after ++ rest) ≡ Whole x =
       ap (λ (b : List ℕ). seal_read w (b ++ rest)) bytes ∙ seal_back w x rest (record { long = hl; short = hs }) in
       rw (eq-eqb (length numbers) 3 three, back, number_only side known e)
-  by_side Nothing e a = absurd (let z : ◌≡◌ {A = ℕ} 0 53 = ap (λ (p : ℕ × List ℕ). p.0) a in omega arith)
+  by_side None e a = absurd (let z : ◌≡◌ {A = ℕ} 0 53 = ap (λ (p : ℕ × List ℕ). p.0) a in omega arith)
 
 pub seal_calls : SealCalls
 unfolding seal_written

@@ -1,5 +1,5 @@
 -- A seal laid into a buffer, and each answer of its writer and its reader. Assumes nothing.
-use Rattle.std.specs.Prelude.{◌+◌, ◌-◌, ◌*◌, ◌≤◌, ◌<◌, ◌∷◌, ◌++◌, ◌≡◌}
+use Rattle.std.specs.Prelude.{Option, Some, None, ◌+◌, ◌-◌, ◌*◌, ◌≤◌, ◌<◌, ◌++◌, ◌≡◌}
 use Rattle.rules.proofs.Common.{ℕ, List, [], refl, sym, ap, ◌∙◌, length, take}
 use Rattle.rules.proofs.Common.{drop, length-drop, length-append}
 use mathlib.Core.List.{append-nil}
@@ -12,14 +12,12 @@ use Rattle.rules.proofs.Refusals.{leaves}
 use Rattle.checksum.specs.Checksum.{crc32}
 use Rattle.sides.specs.Sides.{of_number, of_letters}
 use Rattle.sides.specs.declared.Side.{Side}
-use Rattle.sides.specs.declared.Meant.{Meant}
-use Rattle.sides.specs.declared.Meant.TheVariants.{Means, Nothing}
 use Rattle.sheet.specs.Sheet.{four}
 use Rattle.sheet.specs.End.{from_four}
 use Rattle.wav.specs.Seal.{word_of, name, seal_faults, said, seal_of, seal_written, seal_read}
 use Rattle.wav.specs.declared.seal.Word.{Word}
 use Rattle.wav.specs.declared.seal.Seal.{Seal}
-use Rattle.wav.specs.declared.seal.Reading.TheVariants.{Whole, Refused}
+use Rattle.wav.specs.Seal.{Whole, Refused}
 
 module _ (w : Word) (s : List ℕ) where
   pub at_51 : length s < 24 → Refused 51 ≡ seal_read w s
@@ -36,11 +34,11 @@ module _ (w : Word) (s : List ℕ) where
       unfolding seal_read seal_faults
       at_52 h = rw (le-ltb (length s) 24 enough, ← rs, ← ks, eq-eqb r k named, ← ns, ← os, ne_eqb noted own h)
 
-      module _ {n : ℕ} {m : Meant} (whole : noted ≡ own) (names : n ≡ name s) (ms : m ≡ of_letters n) where
+      module _ {n : ℕ} {m : Option Side} (whole : noted ≡ own) (names : n ≡ name s) (ms : m ≡ of_letters n) where
         told : of_letters (name s) ≡ m
         told = ap of_letters (sym names) ∙ sym ms
 
-        pub at_53 : Nothing ≡ m → Refused 53 ≡ seal_read w s
+        pub at_53 : None ≡ m → Refused 53 ≡ seal_read w s
         unfolding seal_read seal_faults
         at_53 e =
             rw (
@@ -56,7 +54,7 @@ module _ (w : Word) (s : List ℕ) where
             )
 
         pub at_whole : {side : Side} {low high sum : ℕ} → low ≡ from_four (drop 8 s) → high ≡ from_four (drop 12 s)
-            → sum ≡ from_four (drop 16 s) → Means side ≡ m
+            → sum ≡ from_four (drop 16 s) → Some side ≡ m
             → Whole (record { side = side; long = low + 4294967296 * high; short = sum }) ≡ seal_read w s
         unfolding seal_read seal_faults
         at_whole ls hs ss e =
@@ -76,9 +74,6 @@ module _ (w : Word) (s : List ℕ) where
             )
 
 -- ---- written
-
-pub also : {x y : ℕ} {xs ys : List ℕ} → x ≡ y → xs ≡ ys → (x ∷ xs) ≡ (y ∷ ys)
-also e es = cc
 
 pub length_said : (w : Word) (x : Seal) → length (said w x) ≡ 20
 unfolding said four
@@ -109,12 +104,12 @@ module _ (w : Word) (side long short : ℕ) (out : List ℕ) where
   unfolding seal_written
   write_5 h = rw (ne_eqb (length out) 24 h)
 
-  module _ (room : length out ≡ 24) {m : Meant} (ms : m ≡ of_number side) where
-    pub write_53 : Nothing ≡ m → (53 leaving out) ≡ seal_written w side long short out
+  module _ (room : length out ≡ 24) {m : Option Side} (ms : m ≡ of_number side) where
+    pub write_53 : None ≡ m → (53 leaving out) ≡ seal_written w side long short out
     unfolding seal_written
     write_53 e = rw (eq-eqb (length out) 24 room, ← ms, ← e)
 
-    pub write_done : {known : Side} {after : List ℕ} → Means known ≡ m
+    pub write_done : {known : Side} {after : List ℕ} → Some known ≡ m
         → after ≡ seal_of w (record { side = known; long = long; short = short })
         → (0 leaving after) ≡ seal_written w side long short out
     unfolding seal_written

@@ -1,13 +1,18 @@
 -- Each answer of a step of a reading. Assumes nothing.
 use Rattle.std.specs.Prelude.{◌+◌, ◌*◌, ◌/◌, ◌≤◌, ◌<◌, ◌≡◌}
 use Rattle.rules.proofs.Common.{ℕ, List, length, drop}
+use Rattle.rules.specs.Leaf.{◌leaving◌}
+use Rattle.rules.proofs.Refusals.{leaves}
 use Prim.Native.Nat.{min}
 use borrow.Author.Tests.{lt-ltb, le-ltb, eq-eqb, ne_eqb}
 use Rattle.sheet.specs.End.{from_four}
 use Rattle.wav.specs.Chunks.{RIFF, WAVE, FMT, DATA, from_two, front_of, past_chunk, format_in}
 use Rattle.wav.specs.Chunks.{channels_in, format_faults, formatted, chunk_of}
+use Rattle.wav.specs.Chunks.{step_with, next_number, head_numbers, step_numbers}
 use Rattle.wav.specs.declared.chunks.Head.{Head}
-use Rattle.wav.specs.declared.chunks.Step.TheVariants.{Audio, On, Refused}
+use Rattle.wav.specs.declared.chunks.Next.{Next}
+use Rattle.wav.specs.declared.chunks.Next.TheVariants.{Found, More}
+use Rattle.wav.specs.Chunks.{Audio, On, Refused}
 
 -- ---- the file's first bytes
 
@@ -195,3 +200,10 @@ module _ (s : List ℕ) (h : Head) where
                 eq-eqb h.format 0 none,
                 ss,
               )
+
+-- ---- what a host is told of a step
+
+pub told_step : (next : Next) (h : Head) (ns : List ℕ) {after : List ℕ} → after ≡ head_numbers h
+    → (next_number next leaving after) ≡ step_numbers (step_with next h) ns
+told_step Found h ns e = leaves e
+told_step More h ns e = leaves e

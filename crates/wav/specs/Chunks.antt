@@ -1,14 +1,22 @@
 -- The head of a WAV file, read chunk by chunk: what the next step of a reading finds in the file's bytes from
 -- a place on. Four letters are read as a number, least significant byte first.
-use Rattle.std.specs.Prelude.{◌+◌, ◌*◌, ◌/◌, ◌%◌, ◌&&◌, ◌||◌, ◌∷◌}
+use Rattle.std.specs.Prelude.{Result, Ok, Err, ◌+◌, ◌*◌, ◌/◌, ◌%◌, ◌&&◌, ◌||◌, ◌∷◌}
 use Rattle.rules.specs.Common.{ℕ, min, cond, not, List, [], eqb, ltb, length}
 use Rattle.rules.specs.Common.{get_or, drop}
 use Rattle.rules.specs.Leaf.{◌leaving◌}
+use Rattle.rules.specs.Refusal.{refusal_number}
+use Rattle.rules.specs.declared.refusal.Refusal.{Refusal}
 use Rattle.rules.specs.Refusals.{Row, ◌when◌, refusing}
 use Rattle.sheet.specs.End.{from_four}
 use Rattle.wav.specs.declared.chunks.Head.{Head}
-use Rattle.wav.specs.declared.chunks.Step.{Step}
-use Rattle.wav.specs.declared.chunks.Step.TheVariants.{Audio, On, Refused}
+use Rattle.wav.specs.declared.chunks.Next.{Next}
+use Rattle.wav.specs.declared.chunks.Next.TheVariants.{Found, More}
+
+-- What a step comes to: the audio was found, or the reading goes on, or it is refused.
+pub data Step : Type 0 where
+  Audio : Head → Step
+  On : Head → Step
+  Refused : ℕ → Step
 
 -- The letters "RIFF", "WAVE", "fmt " and "data".
 abbrev pub RIFF : ℕ
@@ -106,6 +114,24 @@ chunk_of s h =
 
 unfoldable pub step_of : List ℕ → Head → Step
 step_of s h = cond (eqb h.place 0) (front_of s) (chunk_of s h)
+
+-- The step that an outcome is.
+abbrev pub step_with : Next → Head → Step
+step_with Found h = Audio h
+step_with More h = On h
+
+abbrev pub step_as : Result (Next × Head) Refusal → Step
+step_as (Ok found) = step_with found.0 found.1
+step_as (Err refusal) = Refused (refusal_number refusal)
+
+-- The number of an outcome: 0 if the audio was found, 40 if the host should call again.
+abbrev pub next_number : Next → ℕ
+next_number Found = 0
+next_number More = 40
+
+abbrev pub next_told : Result Next Refusal → ℕ
+next_told (Ok next) = next_number next
+next_told (Err refusal) = refusal_number refusal
 
 -- Where a reading is, as the numbers that a host keeps.
 abbrev pub head_from : List ℕ → Head

@@ -12,10 +12,10 @@ use Rattle.wav.specs.Head.{head_of}
 use Rattle.wav.specs.declared.seal.Word.{Word}
 use Rattle.wav.specs.declared.seal.Word.TheVariants.{Begins, Ends}
 use Rattle.wav.specs.declared.seal.Seal.{Seal}
-use Rattle.wav.specs.declared.seal.Reading.TheVariants as reading
+use Rattle.wav.specs.Seal as reading
 use Rattle.wav.specs.declared.chunks.Head.{Head}
-use Rattle.wav.specs.declared.chunks.Step.{Step}
-use Rattle.wav.specs.declared.chunks.Step.TheVariants.{Audio, On, Refused}
+use Rattle.wav.specs.Chunks.{Step}
+use Rattle.wav.specs.Chunks.{Audio, On, Refused}
 
 -- ---- seals
 

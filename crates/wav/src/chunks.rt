@@ -2,9 +2,10 @@
 ghost use Rattle.std.specs.Prelude.{◌≡◌, ◌+◌, ◌≤◌, ◌<◌, ◌^◌, length};
 ghost use Rattle.rules.specs.Leaf.{◌leaving◌};
 ghost use Rattle.wav.specs.Chunks.{tag_in, format_of, front_of, past_chunk, formatted, chunk_of, step_of, head_numbers};
-ghost use Rattle.wav.specs.Chunks.{step_told};
+ghost use Rattle.wav.specs.Chunks.{step_as, next_told, step_told};
 
 use crate::bytes;
+use rules::Refusal;
 
 // Four letters each, as a number, least significant byte first.
 const RIFF: u64 = 0x4646_4952;
@@ -26,34 +27,50 @@ pub struct Head {
     pub size: u64,
 }
 
-// The audio was found, or the reading goes on, or it is refused.
-#[derive(Drop)]
-pub enum Step {
-    Audio(Head),
-    On(Head),
-    Refused(u32),
+// What a step of a reading came to.
+#[derive(Clone, Copy)]
+pub enum Next {
+    // The audio starts at the place.
+    Found,
+    // The bytes from the place on are wanted.
+    More,
+}
+
+// The number that a host is told: 0 if the audio was found, 40 if the bytes from the place on are wanted, and else the
+// number of the refusal.
+pub fn told(outcome: Result<Next, Refusal>) -> u32
+    ensures { result ≡ next_told outcome }
+{
+    match outcome {
+        Ok(Next::Found) => 0,
+        Ok(Next::More) => 40,
+        Err(refusal) => refusal.number(),
+    }
 }
 
 // The first twelve bytes of a file.
-fn front(file: &[u8]) -> Step
-    ensures { result ≡ front_of file.now }
+fn front(file: &[u8]) -> Result<(Next, Head), Refusal>
+    ensures { step_as result ≡ front_of file.now }
 {
     if file.len() < 12 {
-        return Step::Refused(41);
+        return Err(Refusal::WavNoRiff);
     }
     if bytes::four_at(file, 0) != RIFF {
-        return Step::Refused(41);
+        return Err(Refusal::WavNoRiff);
     }
     if bytes::four_at(file, 8) != WAVE {
-        return Step::Refused(41);
+        return Err(Refusal::WavNoRiff);
     }
-    Step::On(Head {
-        place: 12,
-        format: 0,
-        channels: 0,
-        rate: 0,
-        size: 0,
-    })
+    Ok((
+        Next::More,
+        Head {
+            place: 12,
+            format: 0,
+            channels: 0,
+            rate: 0,
+            size: 0,
+        },
+    ))
 }
 
 // The tag of a format. An extensible format has its tag at the beginning of its identifier.
@@ -76,24 +93,13 @@ fn tag_in(file: &[u8], size: u64) -> u64
 fn format_of(tag: u64, bits: u64) -> u64
     ensures { (result ≡ format_of tag bits) × (result ≤ 33) }
 {
-    if tag == 1 {
-        if bits == 16 {
-            return 16;
-        }
-        if bits == 24 {
-            return 24;
-        }
-        if bits == 32 {
-            return 33;
-        }
-        return 0;
+    match (tag, bits) {
+        (1, 16) => 16,
+        (1, 24) => 24,
+        (1, 32) => 33,
+        (3, 32) => 32,
+        _ => 0,
     }
-    if tag == 3 {
-        if bits == 32 {
-            return 32;
-        }
-    }
-    0
 }
 
 // The reading after a chunk of this size, at a place below 2^63.
@@ -111,80 +117,79 @@ fn pass(size: u64, head: Head) -> Head
 }
 
 // The chunk `fmt ` of this size, at a place below 2^63.
-fn format(file: &[u8], size: u64, head: Head) -> Step
+fn format(file: &[u8], size: u64, head: Head) -> Result<(Next, Head), Refusal>
     requires { (8 ≤ length file.now) × (size < 2 ^ 32) × (head.place < 2 ^ 63) }
-    ensures { result ≡ formatted file.now size head }
+    ensures { step_as result ≡ formatted file.now size head }
 {
-    if (file.len() as u64) < 8 + bytes::lesser(size, 26) {
-        return Step::Refused(42);
+    if (file.len() as u64) < 8 + size.min(26) {
+        return Err(Refusal::WavEnds);
     }
     if size < 16 {
-        return Step::Refused(44);
+        return Err(Refusal::WavShortFormat);
     }
     let format = format_of(tag_in(file, size), bytes::two_at(file, 22));
     if format == 0 {
-        return Step::Refused(45);
+        return Err(Refusal::WavFormat);
     }
     let channels = bytes::two_at(file, 10);
     if channels == 0 {
-        return Step::Refused(46);
+        return Err(Refusal::WavChannels);
     }
     if 64 < channels {
-        return Step::Refused(46);
+        return Err(Refusal::WavChannels);
     }
     if bytes::two_at(file, 20) != channels * (format / 8) {
-        return Step::Refused(47);
+        return Err(Refusal::WavBlock);
     }
     let rate = bytes::four_at(file, 12);
-    Step::On(pass(
-        size,
-        Head {
-            place: head.place,
-            format,
-            channels,
-            rate,
-            size: 0,
-        },
-    ))
+    let described = Head {
+        place: head.place,
+        format,
+        channels,
+        rate,
+        size: 0,
+    };
+    Ok((Next::More, pass(size, described)))
 }
 
 // A chunk, or where the audio starts.
-fn chunk(file: &[u8], head: Head) -> Step
-    ensures { result ≡ chunk_of file.now head }
+fn chunk(file: &[u8], head: Head) -> Result<(Next, Head), Refusal>
+    ensures { step_as result ≡ chunk_of file.now head }
 {
     if file.len() < 8 {
-        return Step::Refused(42);
+        return Err(Refusal::WavEnds);
     }
     if 9223372036854775807 < head.place {
-        return Step::Refused(42);
+        return Err(Refusal::WavEnds);
     }
     let name = bytes::four_at(file, 0);
     let size = bytes::four_at(file, 4);
     if name == DATA {
         if head.format == 0 {
-            return Step::Refused(43);
+            return Err(Refusal::WavNoFormat);
         }
-        return Step::Audio(Head {
+        let audio = Head {
             place: head.place + 8,
             format: head.format,
             channels: head.channels,
             rate: head.rate,
             size,
-        });
+        };
+        return Ok((Next::Found, audio));
     }
     if name != FMT {
-        return Step::On(pass(size, head));
+        return Ok((Next::More, pass(size, head)));
     }
     if head.format != 0 {
-        return Step::On(pass(size, head));
+        return Ok((Next::More, pass(size, head)));
     }
     format(file, size, head)
 }
 
 // The next step of a reading. The bytes that are lent are the file's from the reading's place on: 34, or as
 // many as there are.
-pub fn go_on(file: &[u8], head: Head) -> Step
-    ensures { result ≡ step_of file.now head }
+pub fn go_on(file: &[u8], head: Head) -> Result<(Next, Head), Refusal>
+    ensures { step_as result ≡ step_of file.now head }
 {
     if head.place == 0 {
         return front(file);
@@ -203,14 +208,13 @@ fn tell(numbers: &mut [u64], head: Head)
     numbers[4] = head.size;
 }
 
-// For a host: the next step of a reading, in numbers: place, format, channels, rate and size, all 0 at first.
-// Returns 0 if the audio was found, and 40 if the bytes from the place on are wanted. A buffer of other than
-// five numbers is refused with 5.
-pub fn read(numbers: &mut [u64], file: &[u8]) -> u32
-    ensures { (result leaving numbers.new) ≡ step_told file.now numbers.old }
+// For a host: the next step of a reading, in numbers: place, format, channels, rate and size, all 0 at first. A buffer
+// of other than five numbers is refused as of a wrong length.
+pub fn read(numbers: &mut [u64], file: &[u8]) -> Result<Next, Refusal>
+    ensures { (next_told result leaving numbers.new) ≡ step_told file.now numbers.old }
 {
     if numbers.len() != 5 {
-        return 5;
+        return Err(Refusal::WrongLength);
     }
     let head = Head {
         place: numbers[0],
@@ -219,15 +223,7 @@ pub fn read(numbers: &mut [u64], file: &[u8]) -> u32
         rate: numbers[3],
         size: numbers[4],
     };
-    match go_on(file, head) {
-        Step::Audio(found) => {
-            tell(numbers, found);
-            0
-        }
-        Step::On(next) => {
-            tell(numbers, next);
-            40
-        }
-        Step::Refused(number) => number,
-    }
+    let (next, found) = go_on(file, head)?;
+    tell(numbers, found);
+    Ok(next)
 }

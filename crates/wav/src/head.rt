@@ -1,84 +1,42 @@
 // The head of a WAV file with one channel of 16 bits.
 ghost use Rattle.std.specs.Prelude.{◌≡◌};
 ghost use Rattle.rules.specs.Leaf.{◌leaving◌};
+ghost use Rattle.rules.specs.Refusal.{told};
 ghost use Rattle.wav.specs.Head.{riff_size, head_of, head_written};
 
-use crate::bytes;
+use rules::Refusal;
 
 // RIFF's size: how many bytes follow it, or the most that 32 bits can hold.
-fn riff_size(size: u32, behind: u32) -> u64
+fn riff_size(size: u32, behind: u32) -> u32
     ensures { result ≡ riff_size size behind }
 {
-    bytes::lesser(
-        36 + size as u64 + (size % 2) as u64 + behind as u64,
-        4294967295,
-    )
+    (36 + size as u64 + (size % 2) as u64 + behind as u64).min(4294967295) as u32
 }
 
+// The format's 16 bytes say: format 1, one channel, the rate, bytes a second, 2 bytes a sample, 16 bits.
 pub fn head_of(rate: u32, size: u32, behind: u32) -> [u8; 44]
     ensures { result ≡ head_of rate size behind }
 {
-    let riff = riff_size(size, behind);
-    let hertz = rate as u64;
-    let speed = 2 * hertz;
-    let audio = size as u64;
-    [
-        82,
-        73,
-        70,
-        70,
-        sheet::low(riff),
-        sheet::low(riff / 256),
-        sheet::low(riff / 65536),
-        sheet::low(riff / 16777216),
-        87,
-        65,
-        86,
-        69,
-        102,
-        109,
-        116,
-        32,
-        16,
-        0,
-        0,
-        0,
-        1,
-        0,
-        1,
-        0,
-        sheet::low(hertz),
-        sheet::low(hertz / 256),
-        sheet::low(hertz / 65536),
-        sheet::low(hertz / 16777216),
-        sheet::low(speed),
-        sheet::low(speed / 256),
-        sheet::low(speed / 65536),
-        sheet::low(speed / 16777216),
-        2,
-        0,
-        16,
-        0,
-        100,
-        97,
-        116,
-        97,
-        sheet::low(audio),
-        sheet::low(audio / 256),
-        sheet::low(audio / 65536),
-        sheet::low(audio / 16777216),
-    ]
+    let mut head = [0; 44];
+    head[..4].copy_from_slice(b"RIFF");
+    head[4..8].copy_from_slice(&riff_size(size, behind).to_le_bytes());
+    head[8..24].copy_from_slice(b"WAVEfmt \x10\0\0\0\x01\0\x01\0");
+    head[24..28].copy_from_slice(&rate.to_le_bytes());
+    head[28..32].copy_from_slice(&2u32.wrapping_mul(rate).to_le_bytes());
+    head[32..40].copy_from_slice(b"\x02\0\x10\0data");
+    head[40..].copy_from_slice(&size.to_le_bytes());
+    head
 }
 
 // The head for so many bytes of audio at a rate, with so many bytes of chunks after them. 4,294,967,295 bytes
-// of audio mean: to the end of the file. A buffer of other than 44 bytes is refused with 5.
-pub fn write(out: &mut [u8], rate: u32, size: u32, behind: u32) -> u32
-    ensures { (result leaving out.new) ≡ head_written rate size behind out.old }
+// of audio mean: to the end of the file. A buffer of other than 44 bytes is refused.
+pub fn write(out: &mut [u8], rate: u32, size: u32, behind: u32) -> Result<(), Refusal>
+    ensures { (told result leaving out.new) ≡ head_written rate size behind out.old }
 {
     if out.len() != 44 {
-        return 5;
+        return Err(Refusal::WrongLength);
     }
     let head = head_of(rate, size, behind);
-    bytes::copy(out, &head);
-    0
+    out.copy_from_slice(&head);
+    Ok(())
 }

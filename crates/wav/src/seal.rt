@@ -2,10 +2,12 @@
 // and the checksum of these 20 bytes. The word says which seal it is.
 ghost use Rattle.std.specs.Prelude.{◌≡◌, length};
 ghost use Rattle.rules.specs.Leaf.{◌leaving◌};
-ghost use Rattle.wav.specs.Seal.{word_of, twenty_of, said, seal_of, seal_written, seal_read, seal_summary};
+ghost use Rattle.rules.specs.Refusal.{told};
+ghost use Rattle.wav.specs.Seal.{word_of, twenty_of, said, seal_of, seal_written, seal_as, seal_read, seal_summary};
 
 use crate::bytes;
-use sides::{Meant, Side};
+use rules::Refusal;
+use sides::Side;
 
 // Which seal it is.
 #[derive(Drop)]
@@ -26,15 +28,8 @@ pub struct Seal {
     pub short: u32,
 }
 
-// A whole seal, or the number of a refusal.
-#[derive(Drop)]
-pub enum Reading {
-    Whole(Seal),
-    Refused(u32),
-}
-
 // Four letters as a number, least significant byte first.
-fn word_of(word: Word) -> u64
+fn word_of(word: Word) -> u32
     ensures { result ≡ word_of word }
 {
     match word {
@@ -44,31 +39,15 @@ fn word_of(word: Word) -> u64
 }
 
 // The 20 bytes of four numbers, the third of 64 bits.
-fn twenty(letters: u64, name: u64, long: u64, short: u64) -> [u8; 20]
+fn twenty(letters: u32, name: u32, long: u64, short: u32) -> [u8; 20]
     ensures { result ≡ twenty_of letters name long short }
 {
-    [
-        sheet::low(letters),
-        sheet::low(letters / 256),
-        sheet::low(letters / 65536),
-        sheet::low(letters / 16777216),
-        sheet::low(name),
-        sheet::low(name / 256),
-        sheet::low(name / 65536),
-        sheet::low(name / 16777216),
-        sheet::low(long),
-        sheet::low(long / 256),
-        sheet::low(long / 65536),
-        sheet::low(long / 16777216),
-        sheet::low(long / 4294967296),
-        sheet::low(long / 4294967296 / 256),
-        sheet::low(long / 4294967296 / 65536),
-        sheet::low(long / 4294967296 / 16777216),
-        sheet::low(short),
-        sheet::low(short / 256),
-        sheet::low(short / 65536),
-        sheet::low(short / 16777216),
-    ]
+    let mut bytes = [0; 20];
+    bytes[..4].copy_from_slice(&letters.to_le_bytes());
+    bytes[4..8].copy_from_slice(&name.to_le_bytes());
+    bytes[8..16].copy_from_slice(&long.to_le_bytes());
+    bytes[16..].copy_from_slice(&short.to_le_bytes());
+    bytes
 }
 
 // The seal without its own checksum.
@@ -76,12 +55,7 @@ fn said_by(word: Word, seal: Seal) -> [u8; 20]
     ensures { result ≡ said word seal }
 {
     let side = seal.side;
-    twenty(
-        word_of(word),
-        sides::letters(side) as u64,
-        seal.long,
-        seal.short as u64,
-    )
+    twenty(word_of(word), side.letters(), seal.long, seal.short)
 }
 
 fn lay(out: &mut [u8], word: Word, seal: Seal)
@@ -89,9 +63,9 @@ fn lay(out: &mut [u8], word: Word, seal: Seal)
     ensures { out.new ≡ seal_of word seal }
 {
     let front = said_by(word, seal);
-    let own = bytes::four_of(checksum::crc32(0, &front) as u64);
-    bytes::copy(&mut out[..20], &front);
-    bytes::copy(&mut out[20..], &own);
+    let own = sheet::four(checksum::crc32(0, &front) as u64);
+    out[..20].copy_from_slice(&front);
+    out[20..].copy_from_slice(&own);
 }
 
 // A seal as its 24 bytes.
@@ -103,68 +77,53 @@ pub fn of(word: Word, seal: Seal) -> [u8; 24]
     bytes
 }
 
-// For a host: a seal, of a side by its number. Another length than 24 is refused with 5, and a number that means no
-// side with 53.
-pub fn write(out: &mut [u8], word: Word, side: u32, long: u64, short: u32) -> u32
-    ensures { (result leaving out.new) ≡ seal_written word side long short out.old }
+// For a host: a seal, of a side by its number. Refused are another length than 24, and a number that means no side.
+pub fn write(out: &mut [u8], word: Word, side: u32, long: u64, short: u32) -> Result<(), Refusal>
+    ensures { (told result leaving out.new) ≡ seal_written word side long short out.old }
 {
     if out.len() != 24 {
-        return 5;
+        return Err(Refusal::WrongLength);
     }
-    match sides::of_number(side) {
-        Meant::Means(known) => {
-            lay(
-                out,
-                word,
-                Seal {
-                    side: known,
-                    long,
-                    short,
-                },
-            );
-            0
-        }
-        Meant::Nothing => 53,
-    }
+    let Some(side) = Side::of_number(side) else {
+        return Err(Refusal::SealSide);
+    };
+    lay(out, word, Seal { side, long, short });
+    Ok(())
 }
 
 // The seal with this word, at the front of some bytes.
-pub fn read(word: Word, file: &[u8]) -> Reading
-    ensures { result ≡ seal_read word file.now }
+pub fn read(word: Word, file: &[u8]) -> Result<Seal, Refusal>
+    ensures { seal_as result ≡ seal_read word file.now }
 {
     if file.len() < 24 {
-        return Reading::Refused(51);
+        return Err(Refusal::SealNone);
     }
-    if bytes::four_at(file, 0) != word_of(word) {
-        return Reading::Refused(51);
+    if bytes::four_at(file, 0) != word_of(word) as u64 {
+        return Err(Refusal::SealNone);
     }
     if bytes::four_at(file, 20) != checksum::crc32(0, &file[..20]) as u64 {
-        return Reading::Refused(52);
+        return Err(Refusal::SealChecksum);
     }
     let name = bytes::four_at(file, 4) as u32;
     let long = bytes::four_at(file, 8) + 4294967296 * bytes::four_at(file, 12);
     let short = bytes::four_at(file, 16) as u32;
-    match sides::of_letters(name) {
-        Meant::Means(side) => Reading::Whole(Seal { side, long, short }),
-        Meant::Nothing => Reading::Refused(53),
+    match Side::of_letters(name) {
+        Some(side) => Ok(Seal { side, long, short }),
+        None => Err(Refusal::SealSide),
     }
 }
 
-// For a host: the side's number, the long number and the short one. Another length than three is refused with 5.
-pub fn summary(numbers: &mut [u64], word: Word, file: &[u8]) -> u32
-    ensures { (result leaving numbers.new) ≡ seal_summary word file.now numbers.old }
+// For a host: the side's number, the long number and the short one. Another length than three is refused.
+pub fn summary(numbers: &mut [u64], word: Word, file: &[u8]) -> Result<(), Refusal>
+    ensures { (told result leaving numbers.new) ≡ seal_summary word file.now numbers.old }
 {
     if numbers.len() != 3 {
-        return 5;
+        return Err(Refusal::WrongLength);
     }
-    match read(word, file) {
-        Reading::Whole(seal) => {
-            let side = seal.side;
-            numbers[0] = sides::number(side) as u64;
-            numbers[1] = seal.long;
-            numbers[2] = seal.short as u64;
-            0
-        }
-        Reading::Refused(number) => number,
-    }
+    let seal = read(word, file)?;
+    let side = seal.side;
+    numbers[0] = side.number() as u64;
+    numbers[1] = seal.long;
+    numbers[2] = seal.short as u64;
+    Ok(())
 }

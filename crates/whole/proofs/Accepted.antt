@@ -15,7 +15,7 @@ use Rattle.rules.proofs.Tests.{both}
 use Rattle.samples.specs.Samples.{good_sample, good}
 use Rattle.logs.specs.Log10.{logs_of}
 use Rattle.model.specs.Model.{read_of}
-use Rattle.frame.specs.declared.Reply.{Reply}
+use Rattle.frame.specs.Reply.{Reply}
 use Rattle.frame.specs.Reply.{passed, ◌refusedIf◌}
 use Rattle.frame.specs.Frame.{counted, checked}
 use Rattle.frame.proofs.Tables.{cleared, not_when}

@@ -10,10 +10,10 @@ use Rattle.frame.specs.Written.{first_in}
 use Rattle.rules.proofs.Places.{length_get, length_put, get_put, put_put}
 use Rattle.rules.proofs.Tests.{both}
 use Rattle.logs.specs.Log10.{logs_of}
-use Rattle.desk.specs.declared.Answer.{Answer}
+use Rattle.desk.specs.Answer.{Answer}
 use Rattle.frame.specs.Effect.{Effect, refusal}
-use Rattle.frame.specs.declared.Reply.{Reply}
-use Rattle.frame.specs.declared.Reply.TheVariants.{Done}
+use Rattle.frame.specs.Reply.{Reply}
+use Rattle.frame.specs.Reply.{Done}
 use Rattle.frame.specs.declared.Way.{Way}
 use Rattle.frame.specs.Share.{SHARE}
 use Rattle.frame.specs.Reply.{passed}

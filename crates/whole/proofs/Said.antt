@@ -1,7 +1,8 @@
 -- Dictation over one share, as the code has it.
 --     spoke                            a frame: both halves, with our logarithms between them
---     gathered, gathered-good          its samples, of those that wait and of a piece's
---     So, begun, goes_on, come-to-end  after j frames: at the start, a frame later, and where no frame is left
+--     first_fits, second_fits          neither half is refused
+--     gathered, gathered_good          its samples, of those that wait and of a piece's
+--     So, begun, goes_on, come_to_end  after j frames: at the start, a frame later, and where no frame is left
 -- Assumes nothing.
 use Rattle.std.specs.Prelude.{◌+◌, ◌-◌, ◌*◌, ◌≤◌, ◌∷◌, ◌++◌, ◌≡◌}
 use Rattle.rules.proofs.Common.{ℕ, suc, true, List, [], refl, sym, ap, ap₂, ◌∙◌}
@@ -19,8 +20,8 @@ use Rattle.frame.proofs.Buffers.{over_none, over_next, lent_over}
 use Rattle.samples.specs.Samples.{good}
 use Rattle.logs.specs.Log10.{logs_of}
 use Rattle.frame.specs.Effect.{Worked}
-use Rattle.frame.specs.declared.Reply.{Reply}
-use Rattle.frame.specs.declared.Reply.TheVariants.{Done}
+use Rattle.frame.specs.Reply.{Reply, passed}
+use Rattle.frame.specs.Reply.{Done}
 use Rattle.frame.specs.Share.{SHARE}
 use Rattle.halves.specs.Halves.{first_half, second_half}
 use Rattle.pieces.specs.Pieces.{frame_part, waiting_place, waiting_in, padded_to, waits, completes}
@@ -28,7 +29,7 @@ use Rattle.pieces.proofs.Goods.{good_take, good_drop}
 use Rattle.pieces.proofs.Halved.{Halved, first_length, first_passes, second_length, second_passes}
 use Rattle.pieces.proofs.Padding.{padded_full}
 use Rattle.pieces.proofs.Shares.{part_length, waiting_length, frame_length, frame_back, frame_frame}
-use Rattle.desk.specs.declared.Answer.{Answer}
+use Rattle.desk.specs.Answer.{Answer}
 use Rattle.desk.specs.declared.Record.{Record}
 use Rattle.desk.specs.Desk.{holding}
 use Rattle.desk.specs.Private.{told_second}
@@ -71,6 +72,25 @@ module _ (rec : Record) (share samples : List Float) (model : List ℕ) (fit : F
             ∙ frame_frame share fit.whole half.kept h.part _;
         writes = v.writes;
       }
+
+  -- so neither half is refused
+  pub first_fits : {reply : Reply} → reply ≡ (first_half (get frame_part share) rec.hearing.way samples 22).answer
+      → passed reply ≡ true
+  first_fits e =
+      let h = first_passes (get frame_part share) rec.hearing.way samples (part_length share fit.whole) k g in
+      ap passed e ∙ h.passes
+
+  pub second_fits : (logs : List Float) {r₁ reply : Reply} {z sums part₁ part₂ out out' : List Float}
+      → Worked (first_half (get frame_part share) rec.hearing.way samples 22) r₁ part₁ (z ∷ []) (sums ∷ [])
+      → length logs ≡ 22 → length out ≡ 480
+      → Worked (second_half (get frame_part (put frame_part share part₁)) rec.hearing logs model (length out)) reply
+      part₂ (out ∷ []) (out' ∷ [])
+      → passed reply ≡ true
+  second_fits logs one long n two =
+      let half = first_half (get frame_part share) rec.hearing.way samples 22 in
+      let h = first_passes (get frame_part share) rec.hearing.way samples (part_length share fit.whole) k g in
+      let v = rw (one.keeps, frame_back share fit.whole half.kept h.part, n) at two in
+      ap passed v.answers ∙ (second_passes half.kept rec.hearing logs model h.part long fit.index fit.right).passes
 
   pub spoke_length : (logs : List Float) {r₁ reply : Reply} {z sums part₁ part₂ out out' : List Float}
       → Worked (first_half (get frame_part share) rec.hearing.way samples 22) r₁ part₁ (z ∷ []) (sums ∷ [])

@@ -5,7 +5,7 @@ use Rattle.frame.specs.Effect.{Effect}
 use Rattle.frame.specs.Reply.{passed}
 use Rattle.frame.specs.Written.{first_in}
 use Rattle.logs.specs.Log10.{logs_of}
-use Rattle.desk.specs.declared.Answer.{Answer}
+use Rattle.desk.specs.Answer.{Answer}
 use Rattle.desk.specs.declared.Record.{Record}
 use Rattle.desk.specs.Desk.{first_half, second_half, desk}
 use Rattle.dictation.specs.Dictation.{Dictated}

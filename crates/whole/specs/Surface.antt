@@ -1,7 +1,7 @@
 -- A frame and a take for a host that has only numbers: what the functions of the C surface return and leave.
 use Rattle.rules.specs.Common.{ℕ, List, Float}
 use Rattle.frame.specs.Effect.{Effect}
-use Rattle.desk.specs.declared.Answer.{Answer}
+use Rattle.desk.specs.Answer.{Answer}
 use Rattle.desk.specs.Surface.{record_in, telling}
 use Rattle.whole.specs.Whole.{frame, take}
 

@@ -11,11 +11,11 @@ use Rattle.logs.specs.Log10.{logs_of}
 use Rattle.model.specs.Model.{read_of}
 use Rattle.frame.specs.Effect.{Effect, refusal}
 use Rattle.frame.specs.Reply.{passed, ◌refusedIf◌, first_refusal}
-use Rattle.frame.specs.declared.Reply.{Reply}
-use Rattle.frame.specs.declared.Reply.TheVariants.{Done}
+use Rattle.frame.specs.Reply.{Reply}
+use Rattle.frame.specs.Reply.{Done}
 use Rattle.frame.specs.Frame.{counted, checked}
 use Rattle.pieces.specs.Pieces.{waiting_in, completes, piece_fits}
-use Rattle.desk.specs.declared.Answer.{Answer}
+use Rattle.desk.specs.Answer.{Answer}
 use Rattle.desk.specs.declared.Record.{Record}
 use Rattle.desk.specs.Gate.{PIECE, gate, share_of}
 use Rattle.desk.specs.Laws.{placed}

@@ -2,9 +2,10 @@
 ghost use Rattle.std.specs.Prelude.{◌≡◌, [], ◌∷◌, ◌+◌, ◌*◌, ◌≤◌, length};
 ghost use Rattle.rules.specs.F32.{zeros};
 ghost use Rattle.frame.specs.Written.{from, over};
+ghost use Rattle.frame.specs.Answer.{as_reply, reply_told};
 ghost use Rattle.desk.specs.Surface.{heard_of};
 
-use frame::Reply;
+use frame::{Cause, Told};
 
 #[derive(Clone, Copy)]
 pub struct Three {
@@ -23,33 +24,29 @@ fn none() -> Three
     }
 }
 
-pub fn three_of(reply: Reply) -> Three
-    ensures { result.heard ∷ result.voice ∷ result.energy ∷ [] ≡ heard_of reply }
+pub fn three_of(outcome: Result<Told, Cause>) -> Three
+    ensures { result.heard ∷ result.voice ∷ result.energy ∷ [] ≡ heard_of (as_reply outcome) }
 {
-    match reply {
-        Reply::Heard(voice, energy) => Three {
+    match outcome {
+        Ok(Told::Heard { voice, energy }) => Three {
             heard: 1.0,
             voice,
             energy,
         },
-        Reply::Done => none(),
-        Reply::Silent => none(),
-        Reply::Numbered(_, _) => none(),
-        Reply::Refused(_) => none(),
-        Reply::Misread(_, _) => none(),
+        Ok(Told::Done | Told::Silent | Told::Numbered { .. }) | Err(_) => none(),
     }
 }
 
 // The three answers of frame j.
-pub(crate) fn tell(answers: &mut [f32], j: usize, reply: Reply)
+pub(crate) fn tell(answers: &mut [f32], j: usize, told: Told)
     requires { 3 * j + 3 ≤ length answers.old }
-    ensures { answers.new ≡ over (from (3 * j) (heard_of reply)) answers.old }
+    ensures { answers.new ≡ over (from (3 * j) (heard_of (reply_told told))) answers.old }
 {
     let Three {
         heard,
         voice,
         energy,
-    } = three_of(reply);
+    } = three_of(Ok(told));
     let start = 3 * j;
     answers[start] = heard;
     answers[start + 1] = voice;

@@ -1,10 +1,12 @@
 // A frame in one call: one table of refusals, then its two halves on the side's share.
 ghost use Rattle.std.specs.Prelude.{[], ◌∷◌, length};
+ghost use Rattle.desk.specs.Answer.{answer_of};
 ghost use Rattle.desk.specs.Gate.{BENCHES};
 ghost use Rattle.frame.specs.Effect.{Worked};
 ghost use Rattle.whole.specs.Whole.{frame};
 
-use desk::{Answer, Bench, Record};
+use desk::{Bench, Record};
+use frame::{Cause, Told};
 
 // Takes 480 samples and the model, and writes 480 numbers. The frame is silent, or heard with voice and
 // energy.
@@ -15,17 +17,14 @@ pub fn frame(
     samples: &[f32],
     model: &[u8],
     out: &mut [f32],
-) -> Answer
+) -> Result<(Told, Record), Cause>
     ensures { Worked
         (frame BENCHES side.0 rec store.old samples.now model.now
         (length out.old))
-        result store.new (out.old ∷ []) (out.new ∷ []) }
+        (answer_of rec result) store.new (out.old ∷ []) (out.new ∷ []) }
 {
-    let reply = crate::refusals::frame_reply(side, rec, store.len(), samples, model, out.len());
-    if !frame::passed(reply) {
-        return Answer { reply, rec };
-    }
+    crate::refusals::frame_reply(side, rec, store.len(), samples, model, out.len())?;
     let start = side.0 * frame::SHARE;
     let end = start + frame::SHARE;
-    crate::spoken::process_frame(&mut store[start..end], rec, samples, model, out)
+    Ok(crate::spoken::process_frame(&mut store[start..end], rec, samples, model, out))
 }

@@ -2,15 +2,17 @@
 ghost use Rattle.std.specs.Prelude.{◌≡◌, ◌++◌, ◌*◌, ◌≤◌, ◌<◌, length};
 ghost use Rattle.rules.specs.Place.{get};
 ghost use Rattle.samples.specs.Samples.{good};
+ghost use Rattle.frame.specs.Answer.{test_as_reply};
 ghost use Rattle.frame.specs.Share.{SHARE};
 ghost use Rattle.pieces.specs.Pieces.{waiting_in};
 ghost use Rattle.desk.specs.Gate.{BENCHES, share_of};
 ghost use Rattle.whole.specs.Whole.{frame_reply, take_reply};
 
 use desk::{Bench, Record};
-use frame::Reply;
+use frame::Cause;
+use rules::Refusal;
 
-// The refusal of a frame, or Done.
+// The refusal of a frame, if there is one.
 pub(crate) fn frame_reply(
     side: Bench,
     rec: Record,
@@ -18,18 +20,15 @@ pub(crate) fn frame_reply(
     samples: &[f32],
     model: &[u8],
     out: usize,
-) -> Reply
-    ensures { result ≡ frame_reply BENCHES side.0 rec len samples.now model.now out }
+) -> Result<(), Cause>
+    ensures { test_as_reply result ≡ frame_reply BENCHES side.0 rec len samples.now model.now out }
 {
-    let number = desk::gate(side, rec, len, 1);
-    if number != 0 {
-        return Reply::Refused(number);
-    }
+    desk::gate(side, rec, len, 1)?;
     if samples.len() != 480 {
-        return Reply::Refused(5);
+        return Err(Refusal::WrongLength.into());
     }
     if out != 480 {
-        return Reply::Refused(5);
+        return Err(Refusal::WrongLength.into());
     }
     pieces::last_tests(rec.hearing, model, samples::all_good(samples))
 }
@@ -41,13 +40,10 @@ fn both_good(side: usize, waiting: usize, store: &[f32], samples: &[f32]) -> boo
 {
     let start = side * frame::SHARE + frame::PART;
     let end = start + waiting;
-    if !samples::all_good(&store[start..end]) {
-        return false;
-    }
-    samples::all_good(samples)
+    samples::all_good(&store[start..end]) && samples::all_good(samples)
 }
 
-// The refusal of a take, or Done.
+// The refusal of a take, if there is one.
 pub(crate) fn take_reply(
     side: Bench,
     rec: Record,
@@ -56,19 +52,16 @@ pub(crate) fn take_reply(
     model: &[u8],
     out: usize,
     answers: usize,
-) -> Reply
-    ensures { result
+) -> Result<(), Cause>
+    ensures { test_as_reply result
         ≡ take_reply BENCHES side.0 rec store.now piece.now model.now out answers }
 {
-    let number = desk::gate(side, rec, store.len(), desk::PIECE);
-    if number != 0 {
-        return Reply::Refused(number);
-    }
+    desk::gate(side, rec, store.len(), desk::PIECE)?;
     if !pieces::piece_fits(rec.waiting, piece.len(), out, 22) {
-        return Reply::Refused(5);
+        return Err(Refusal::WrongLength.into());
     }
     if 3 * ((rec.waiting + piece.len()) / 480) > answers {
-        return Reply::Refused(5);
+        return Err(Refusal::WrongLength.into());
     }
     let fine = both_good(side.0, rec.waiting, store, piece);
     pieces::last_tests(rec.hearing, model, fine)

@@ -1,17 +1,19 @@
 // Dictation on one share: for each frame a first half, our logarithms and a second half; the rest of the
 // samples waits. The callers have tested everything that could refuse it.
-ghost use Rattle.std.specs.Prelude.{true, [], ◌∷◌, ◌++◌, ◌≡◌, ◌+◌, ◌*◌, ◌≤◌, length, drop};
+ghost use Rattle.std.specs.Prelude.{Ok, true, [], ◌∷◌, ◌++◌, ◌≡◌, ◌+◌, ◌*◌, ◌≤◌, length, drop};
 ghost use Rattle.frame.specs.Effect.{Worked};
+ghost use Rattle.frame.specs.Reply.{Done};
 ghost use Rattle.frame.specs.Written.{from, over, first_in};
 ghost use Rattle.samples.specs.Samples.{good};
 ghost use Rattle.pieces.specs.Pieces.{waiting_in, padded_to, waits, completes};
+ghost use Rattle.desk.specs.Answer.{answer_of};
 ghost use Rattle.desk.specs.Surface.{heard_of};
 ghost use Rattle.dictation.specs.Dictation.{frame_on};
 ghost use Rattle.whole.specs.Whole.{our_lent, taken_on};
 ghost use Rattle.whole.specs.Private.{Fit, Ready, frame_of};
 
-use desk::{Answer, Record};
-use frame::{PART, Reply};
+use desk::Record;
+use frame::{PART, Told};
 
 // One frame on a share: takes 480 samples and writes 480 numbers, with our logarithms between its halves.
 pub(crate) fn process_frame(
@@ -20,20 +22,20 @@ pub(crate) fn process_frame(
     samples: &[f32],
     model: &[u8],
     out: &mut [f32],
-) -> Answer
+) -> (Told, Record)
     requires fit { Fit rec share.old model.now }
     requires samples_len { (length samples.now ≡ 480) × (good samples.now ≡ true) × (length out.old ≡ 480) }
     ensures { Worked (frame_on rec share.old samples.now (our_lent model.now))
-        result share.new (out.old ∷ []) (out.new ∷ []) }
+        (answer_of rec (Ok result)) share.new (out.old ∷ []) (out.new ∷ []) }
 {
     let hearing = rec.hearing;
     let way = hearing.way;
     let mut sums = [0.0f32; 22];
-    halves::first_half(&mut share[0..PART], way, samples, &mut sums);
+    halves::first_half(&mut share[0..PART], way, samples, &mut sums).unwrap();
     let mut logs = [0.0f32; 22];
-    logs::logs(&mut logs, &sums);
-    let reply = halves::second_half(&mut share[0..PART], hearing, &logs, model, out);
-    desk::told_second(desk::holding(3, rec, 0, 0, 0), reply)
+    logs::logs(&mut logs, &sums).unwrap();
+    let outcome = halves::second_half(&mut share[0..PART], hearing, &logs, model, out);
+    desk::told_second(desk::holding(3, rec, 0, 0, 0), outcome).unwrap()
 }
 
 // `out` becomes the samples from frame j on, of those that wait followed by the piece's, as far as it has
@@ -86,10 +88,9 @@ fn step(
     gather(&mut samples, share, waiting, piece, j);
     let start = 480 * j;
     let end = start + 480;
-    let done = process_frame(share, rec, &samples, model, &mut out[start..end]);
-    let reply = done.reply;
-    crate::heard::tell(answers, j, reply);
-    done.rec
+    let (told, next) = process_frame(share, rec, &samples, model, &mut out[start..end]);
+    crate::heard::tell(answers, j, told);
+    next
 }
 
 // The places at which samples may wait end here. They begin at frame::PART.
@@ -105,7 +106,7 @@ fn settle(share: &mut [f32], waiting: usize, piece: &[f32], frames: usize)
 {
     let mut rest = [0.0f32; 479];
     gather(&mut rest, share, waiting, piece, frames);
-    rules::copy(&mut share[PART..TO], &rest);
+    rules::copy(&mut share[PART..TO], &rest).unwrap();
 }
 
 // All frames that the samples complete, one after another. The rest waits.
@@ -116,12 +117,12 @@ pub(crate) fn dictate(
     model: &[u8],
     out: &mut [f32],
     answers: &mut [f32],
-) -> Answer
+) -> Record
     requires fit { Fit rec share.old model.now }
     requires ready { Ready rec.waiting share.old piece.now (completes rec.waiting (length piece.now))
         (length out.old) (length answers.old) }
     ensures { Worked (taken_on rec share.old piece.now model.now)
-        result share.new (out.old ∷ answers.old ∷ [])
+        (record { reply = Done; rec = result }) share.new (out.old ∷ answers.old ∷ [])
         (out.new ∷ answers.new ∷ []) }
 {
     let waiting = rec.waiting;
@@ -132,8 +133,5 @@ pub(crate) fn dictate(
     }
     settle(share, waiting, piece, frames);
     let left = waiting + piece.len() - 480 * frames;
-    Answer {
-        reply: Reply::Done,
-        rec: desk::holding(1, last, left, 0, 0),
-    }
+    desk::holding(1, last, left, 0, 0)
 }

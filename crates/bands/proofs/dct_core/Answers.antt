@@ -6,11 +6,6 @@ use Rattle.bands.specs.Dct.{dct_scaled}
 use Rattle.bands.proofs.Sums.{sums_scaled}
 use Rattle.bands.proofs.dct_core.Goals as goal
 
-pub scale_sums-requires : goal.scale_sums-requires
-scale_sums-requires c =
-    c.add_rows.auto.sums
-    ∙ c.requires.into
-
 pub returns : goal.returns
 returns c =
     c.scale_sums.ensures

@@ -1,24 +1,18 @@
 -- `bands::scale_sums` meets its contract. Assumes nothing.
-use Rattle.rules.proofs.Common.{ap, ◌∙◌, length-set}
+use Rattle.rules.proofs.Common.{ap, ◌∙◌}
 use native.Mathlib.Omega.{arith}
-use Rattle.rules.proofs.Loops.{turns}
-use Rattle.rules.proofs.Lists.{tab_none, tab_more, tab_done, tab_still}
+use Rattle.rules.proofs.Lists.{filling_begin, filling_more, filling_ended, filling_ahead}
 use Rattle.bands.specs.Dct.{dct_scaled}
 use Rattle.bands.proofs.scale_sums.Goals as goal
 
-pub loop-i-init : goal.loop-i-init
-loop-i-init c = (omega arith, search turns, search turns, tab_none _ _)
+pub loop-sum-init : goal.loop-sum-init
+loop-sum-init c = filling_begin _ _
 
-pub dct_scaled-requires : goal.dct_scaled-requires
-dct_scaled-requires c = search turns
-
-pub loop-i-preserved : goal.loop-i-preserved
-loop-i-preserved c =
-    let l = c.loop-i in
-    let still = tab_still _ _ _ l.i l.i _ l.invariant.3 (omega arith) in
-    let scaled = c.dct_scaled.ensures ∙ ap dct_scaled still in
-    let next = tab_more _ _ _ _ _ l.invariant.3 scaled (omega arith) in
-    (omega arith, simp length-set l.invariant.1, l.invariant.2, next)
+pub loop-sum-preserved : goal.loop-sum-preserved
+loop-sum-preserved c =
+    let l = c.loop-sum in
+    let still = filling_ahead _ _ l.sum-index l.sum-index _ l.invariant (omega arith) in
+    filling_more _ _ l.sum-index l.invariant (omega arith) (c.dct_scaled.ensures ∙ ap dct_scaled still)
 
 pub returns : goal.returns
-returns c = c.loop-i.invariant.3 ∙ tab_done _ _ c.loop-i.i 22 (omega arith) (omega arith)
+returns c = filling_ended _ _ _ 22 (omega arith) (omega arith) (omega arith) c.loop-sum.invariant

@@ -6,20 +6,20 @@ use Rattle.rules.proofs.Loops.{turns}
 use Rattle.checksum.proofs.Parts.{crc_more, crc_ended}
 use Rattle.checksum.proofs.update.Goals as goal
 
-pub loop-i-init : goal.loop-i-init
-loop-i-init c = (omega arith, refl, refl)
+pub loop-byte-init : goal.loop-byte-init
+loop-byte-init c = (omega arith, refl, refl)
 
 pub wide-requires : goal.wide-requires
 wide-requires c = search turns
 
-pub loop-i-preserved : goal.loop-i-preserved
-loop-i-preserved c =
-    let l = c.loop-i in (
+pub loop-byte-preserved : goal.loop-byte-preserved
+loop-byte-preserved c =
+    let l = c.loop-byte in (
       omega arith,
       refl,
-      l.invariant.2 ∙ crc_more _ l.register l.i (omega arith)
+      l.invariant.2 ∙ crc_more _ l.register l.byte-index (omega arith)
           ∙ rw (c.wide.ensures, c.requires),
     )
 
 pub returns : goal.returns
-returns c = let l = c.loop-i in sym (l.invariant.2 ∙ crc_ended _ _ l.i (omega arith))
+returns c = let l = c.loop-byte in sym (l.invariant.2 ∙ crc_ended _ _ l.byte-index (omega arith))

@@ -5,6 +5,6 @@ use Rattle.rules.proofs.Common.{length, drop}
 use Rattle.checksum.specs.Checksum.{crc}
 use Rattle.checksum.proofs.update.Given as goal
 
-abbrev pub invariant-loop-i : goal.invariant-loop-i
-invariant-loop-i l = (l.i ≤ l.i-end) × (l.i-end ≡ length l.bytes)
-    × (crc l.start l.bytes ≡ crc l.register (drop l.i l.bytes))
+abbrev pub invariant-loop-byte : goal.invariant-loop-byte
+invariant-loop-byte l = (l.byte-index ≤ l.byte-index-end) × (l.byte-index-end ≡ length l.bytes)
+    × (crc l.start l.bytes ≡ crc l.register (drop l.byte-index l.bytes))

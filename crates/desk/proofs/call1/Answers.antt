@@ -4,12 +4,12 @@ use Rattle.rules.specs.Place.{get, put}
 use Rattle.desk.proofs.Serve.{turned_away_lem, framed}
 use Rattle.desk.proofs.call1.Goals as goal
 
-pub returns-then-number-ne0 : goal.returns-then-number-ne0
+pub returns-in_err-share : goal.returns-in_err-share
 unfolding get put
-returns-then-number-ne0 c = search turned_away_lem depth 1
+returns-in_err-share c = turned_away_lem _ _ _ _ _ _ _ _ c.in_err-share.ensures.gated c.from_residual.ensures.1
 
 pub returns : goal.returns
 unfolding get put
 returns c =
-    framed _ _ _ _ _ _ _ _ c.admit-number.ensures.number c.if-number-ne0.false c.admit-number.ensures.share
-    c.call1-reply.ensures (λ e. rw e) c.told.ensures
+    let admitted = c.in_ok-share.ensures in
+    framed _ _ _ _ _ _ admitted.gated admitted.share c.call1-outcome.ensures (λ e. rw e) c.told.ensures

@@ -1,4 +1,4 @@
--- `desk::carried` meets its contract: each answer by the tests that lead to it. Assumes nothing.
+-- `desk::carried` meets its contract: each answer by the test that leads to it. Assumes nothing.
 use Rattle.rules.proofs.Tests.{tests}
 use Rattle.desk.specs.Desk.{carried}
 use Rattle.desk.proofs.carried.Goals as goal
@@ -7,6 +7,6 @@ pub returns-then-rest-lt480 : goal.returns-then-rest-lt480
 unfolding carried
 returns-then-rest-lt480 c = search (tests, c.holding.ensures)
 
-pub returns : goal.returns
+pub returns-else-rest-lt480 : goal.returns-else-rest-lt480
 unfolding carried
-returns c = search (tests, c.holding-2.ensures)
+returns-else-rest-lt480 c = search (tests, c.holding-else-rest-lt480.ensures)

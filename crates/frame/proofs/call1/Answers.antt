@@ -5,30 +5,12 @@ use Rattle.rules.proofs.Common.{Float}
 use native.Mathlib.Omega.{arith}
 use Rattle.rules.specs.Place.{get, put}
 use Rattle.rules.proofs.Places.{put_sets}
-use Rattle.rules.proofs.Tests.{tests}
 use Rattle.numbers.specs.declared.filter.Memory.{Memory}
 use Rattle.frame.specs.Share.{input_mem, mem_hp_x}
 use Rattle.numbers.specs.Filter.{memory_list}
-use Rattle.frame.specs.Frame.{call1}
 use Rattle.frame.proofs.Done.{call1_done}
 use Rattle.frame.proofs.Sizes.{at_get}
 use Rattle.frame.proofs.call1.Goals as goal
-
-pub returns-then-share-ne-PART : goal.returns-then-share-ne-PART
-unfolding call1
-returns-then-share-ne-PART c = search tests
-
-pub returns-then-samples-ne480 : goal.returns-then-samples-ne480
-unfolding call1
-returns-then-samples-ne480 c = search tests
-
-pub returns-then-window-ne960 : goal.returns-then-window-ne960
-unfolding call1
-returns-then-window-ne960 c = search tests
-
-pub returns-then-not-all_good : goal.returns-then-not-all_good
-unfolding call1
-returns-then-not-all_good c = search (tests, sym c.all_good.ensures ∙ c.if-not-all_good.true)
 
 pub bounds-share-3193-2 : goal.bounds-share-3193-2
 bounds-share-3193-2 c = simp length-set (omega arith)
@@ -37,6 +19,8 @@ pub returns : goal.returns
 unfolding put get
 returns c =
     let w = c.take_in-next in
+    let taken = (rw c.unwrap.ensures at c.as_array.ensures.cases).same in
+    let done = rw taken at w.ensures in
     let a = c.args in
     let share = a.share.now in
     let fine = sym c.all_good.ensures ∙ c.if-not-all_good.false in
@@ -51,6 +35,6 @@ returns c =
           put_sets (put input_mem share w.new.mem) (memory_list w.result) 3192
           (simp (length-append, length-drop) (omega arith))
           ∙ ap₂ (λ (mem : List Float) (m : Memory). put mem_hp_x (put input_mem share mem) (memory_list m))
-          w.ensures.mem_after w.ensures.value;
-      writes = ap (λ (l : List Float). l ∷ []) w.ensures.window_after;
+          done.mem_after done.value;
+      writes = ap (λ (l : List Float). l ∷ []) done.window_after;
     })

@@ -1,50 +1,38 @@
 -- `frame::call3` meets its contract. Assumes nothing.
 use Rattle.std.specs.Prelude.{◌∷◌}
-use Rattle.rules.proofs.Common.{[], sym, ◌∙◌, length}
+use Rattle.rules.proofs.Common.{[], refl, length}
 use native.Mathlib.Omega.{arith}
 use Rattle.model.specs.Model.{read_of}
-use Rattle.rules.proofs.Tests.{tests}
-use Rattle.frame.specs.Frame.{counted, done3, call3}
+use Rattle.frame.proofs.Answered.{tested_good, passed_on, refused_lem}
+use Rattle.frame.specs.Frame.{counted, done3}
 use Rattle.frame.proofs.Done.{call3_done, modelled_no, modelled_yes}
 use Rattle.frame.proofs.call3.Goals as goal
 
-pub returns-then-share-ne-PART : goal.returns-then-share-ne-PART
-unfolding call3
-returns-then-share-ne-PART c = search tests
-
-pub returns-then-spectrum-ne961 : goal.returns-then-spectrum-ne961
-unfolding call3
-returns-then-spectrum-ne961 c = search tests
-
-pub returns-then-logs-ne22 : goal.returns-then-logs-ne22
-unfolding call3
-returns-then-logs-ne22 c = search tests
-
-pub returns-then-out-ne961 : goal.returns-then-out-ne961
-unfolding call3
-returns-then-out-ne961 c = search tests
-
-pub returns-then-hearing-gt7 : goal.returns-then-hearing-gt7
-unfolding call3
-returns-then-hearing-gt7 c = search tests
-
-pub returns-then-not-passed : goal.returns-then-not-passed
-returns-then-not-passed c =
+pub returns-in_err-check : goal.returns-in_err-check
+returns-in_err-check c =
     let a = c.args in
-    rw
-    (call3_done a.share.now (omega arith) a.hearing a.spectrum.now a.logs.now a.model.now
-    (length a.out.now) (omega arith) (omega arith) (omega arith) (omega arith))
+    rw (
+      passed_on c.from_residual.result c.in_err-check.field-0.0 c.from_residual.ensures.1,
+      call3_done a.share.now (omega arith) a.hearing a.spectrum.now a.logs.now a.model.now (length a.out.now)
+          (omega arith) (omega arith) (omega arith) (omega arith),
+    )
     (modelled_no (counted a.hearing) a.share.now (a.out.now ∷ [])
-    (done3 a.share.now a.hearing.index a.spectrum.now a.logs.now a.model.now)
-    (read_of a.model.now) c.check-reply.ensures (sym c.passed.ensures ∙ c.if-not-passed.true))
+    (done3 a.share.now a.hearing.index a.spectrum.now a.logs.now a.model.now) (read_of a.model.now)
+    c.in_err-check.ensures (refused_lem c.in_err-check.field-0.0))
 
 pub returns : goal.returns
 returns c =
     let a = c.args in
+    let share = (rw c.unwrap.ensures at c.as_mut_array.ensures.cases).same in
+    let out = (rw c.unwrap-2.ensures at c.as_mut_array-2.ensures.cases).same in
+    let spectrum = (rw c.unwrap-3.ensures at c.as_array.ensures.cases).same in
+    let logs = (rw c.unwrap-4.ensures at c.as_array-2.ensures.cases).same in
     rw
     (call3_done a.share.now (omega arith) a.hearing a.spectrum.now a.logs.now a.model.now
     (length a.out.now) (omega arith) (omega arith) (omega arith) (omega arith))
     (modelled_yes (counted a.hearing) a.share.now (a.out.now ∷ [])
     (done3 a.share.now a.hearing.index a.spectrum.now a.logs.now a.model.now)
-    (read_of a.model.now) c.check-reply.ensures (sym c.passed.ensures ∙ c.if-not-passed.false)
-    c.listen.ensures)
+    (read_of a.model.now) c.in_ok-check.ensures refl (rw (share, out, spectrum, logs) at c.listen.ensures))
+
+pub listen-requires-clause-reads : goal.listen-requires-clause-reads
+listen-requires-clause-reads c = tested_good (counted c.args.hearing) (read_of c.args.model.now) c.in_ok-check.ensures

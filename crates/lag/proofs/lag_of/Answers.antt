@@ -1,12 +1,19 @@
--- `lag::lag_of` meets its contract: a refusal by the test, else what the core ensures. Assumes nothing.
-use Rattle.rules.proofs.Common.{ℕ, refl, ap}
-use borrow.Author.Rules.{rules}
-use Rattle.rules.specs.Leaf.{done, refused}
-use Rattle.lag.specs.declared.OwnLag.{OwnLag}
+-- `lag::lag_of` meets its contract: the first pitch is below 294. Assumes nothing.
+use Rattle.std.specs.Prelude.{Ok}
+use Rattle.rules.proofs.Common.{ℕ, ap}
+use native.Mathlib.Omega.{arith}
+use Rattle.rules.specs.Leaf.{done}
+use Rattle.pitch.proofs.Passed.{passed}
+use Rattle.lag.proofs.Joined.{small_of, lagged}
 use Rattle.lag.proofs.lag_of.Goals as goal
 
-pub returns-then-input_mem-ne1728 : goal.returns-then-input_mem-ne1728
-returns-then-input_mem-ne1728 c = refused (λ fits. c.if-input_mem-ne1728.true fits) refl
+pub overflow_mul-result : goal.overflow_mul-result
+overflow_mul-result c = omega (arith, small_of _ c.first_pitch.ensures)
+
+pub overflow_sub-result : goal.overflow_sub-result
+overflow_sub-result c = omega (arith, small_of _ c.first_pitch.ensures)
 
 pub returns : goal.returns
-returns c = done (search rules) (ap (λ (l : ℕ). OwnLag.Lag l) c.lag_core.ensures)
+returns c =
+    let low = passed c.pitch_downsample.ensures c.in_ok-pitch_downsample.was in
+    done low.0.whole (ap (λ (l : ℕ). Ok l) (lagged _ _ c.first_pitch.ensures low.1))

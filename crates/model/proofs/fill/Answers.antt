@@ -17,8 +17,8 @@ loop-i-init c =
 pub bounds-row-i : goal.bounds-row-i
 bounds-row-i c = omega (arith, mod-lt c.loop-i.i {m = 5} (omega arith))
 
-pub overflow_cast-numbers : goal.overflow_cast-numbers
-overflow_cast-numbers c =
+pub overflow_cast-number : goal.overflow_cast-number
+overflow_cast-number c =
     rw c.line-row.ensures (omega
     (arith, line_small c.args.bytes.now (c.loop-i.i / 5) (c.loop-i.i % 5)))
 

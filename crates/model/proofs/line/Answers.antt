@@ -7,29 +7,21 @@ use Rattle.model.proofs.line.Goals as goal
 
 pub overflow_sub-result : goal.overflow_sub-result
 overflow_sub-result c =
-    let found = sym c.in-At.is ∙ c.find.ensures in
+    let found = sym c.in-Some.is ∙ c.find.ensures in
     let good =
     within c.args.bytes.now c.args.layer found (le_refl (length c.args.bytes.now)) in
     good.start
 
 pub size-requires : goal.size-requires
 size-requires c =
-    let found = sym c.in-At.is ∙ c.find.ensures in
+    let found = sym c.in-Some.is ∙ c.find.ensures in
     let good =
     within c.args.bytes.now c.args.layer found (le_refl (length c.args.bytes.now)) in
     (good.inputs, good.neurons)
 
 pub overflow_add-result : goal.overflow_add-result
 overflow_add-result c =
-    let found = sym c.in-At.is ∙ c.find.ensures in
+    let found = sym c.in-Some.is ∙ c.find.ensures in
     let good =
     within c.args.bytes.now c.args.layer found (le_refl (length c.args.bytes.now)) in
     rw c.size.ensures (omega (arith, good.reach, c.type_inv.bytes))
-
-pub returns-in-At : goal.returns-in-At
-returns-in-At c =
-    let found = sym c.in-At.is ∙ c.find.ensures in
-    rw (← found, c.activation_number.ensures, c.size.ensures)
-
-pub returns-in-Nothing : goal.returns-in-Nothing
-returns-in-Nothing c = rw (sym c.find.ensures ∙ c.in-Nothing.is)

@@ -18,11 +18,10 @@ loop-layer-init c =
       start c.args.bytes.now,
     )
 
-pub returns-in-Refused : goal.returns-in-Refused
-returns-in-Refused c =
+pub returns-in-Err : goal.returns-in-Err
+returns-in-Err c =
     let s = c.args.bytes.now in
-    let step = rw c.kinds_in_row-kinds.ensures at
-    (sym c.in-Refused.is ∙ c.layer.ensures) in
+    let step = rw (c.kinds_in_row-kinds.ensures, c.in-Err.is) at c.layer.ensures in
     sym (c.loop-layer.invariant.4 ∙ stopped s c.loop-layer.layer (take c.loop-layer.layer c.loop-layer.headers)
     c.loop-layer.c.at
     (omega arith) step)
@@ -32,9 +31,8 @@ loop-layer-preserved c =
     let s = c.args.bytes.now in
     let j = c.loop-layer.layer in
     let hs = c.loop-layer.headers in
-    let h = c.in-Layer.header in
-    let step = rw c.kinds_in_row-kinds.ensures at
-    (sym c.in-Layer.is ∙ c.layer.ensures) in (
+    let h = c.in-Ok.header in
+    let step = rw (c.kinds_in_row-kinds.ensures, c.in-Ok.is) at c.layer.ensures in (
       omega arith,
       simp length-set c.loop-layer.invariant.1,
       within _ _ _ step,

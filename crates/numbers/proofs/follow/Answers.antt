@@ -1,9 +1,5 @@
 -- `numbers::follow` meets its contract. Assumes nothing.
-use Rattle.numbers.proofs.Floors.{inside_within}
 use Rattle.numbers.proofs.follow.Goals as goal
-
-pub place_of-requires : goal.place_of-requires
-place_of-requires c = rw c.inside-size.ensures (inside_within _)
 
 pub returns : goal.returns
 returns c =
@@ -11,5 +7,5 @@ returns c =
       c.ended.ensures,
       c.sign_of.ensures,
       c.place_of.ensures,
-      c.inside-size.ensures,
+      c.inside-size.ensures.0,
     )

@@ -1,11 +1,10 @@
 -- `numbers::inside` meets its contract. Assumes nothing.
+use Rattle.std.specs.Prelude.{◌≡◌}
+use Rattle.numbers.specs.Private.{inside_of}
+use Rattle.numbers.proofs.Floors.{inside_within}
 use Rattle.numbers.proofs.inside.Goals as goal
 
 pub returns-then-x-2 : goal.returns-then-x-2
-returns-then-x-2 c = rw (c.if-x.true, c.if-x-2.true) c.size_of.ensures
-
-pub returns-else-x-2 : goal.returns-else-x-2
-returns-else-x-2 c = rw (c.if-x.true, c.if-x-2.false)
-
-pub returns-else-x : goal.returns-else-x
-returns-else-x c = rw c.if-x.false
+returns-then-x-2 c =
+    let same : c.size_of.result ≡ inside_of c.args.x = rw (c.if-x.true, c.if-x-2.true) c.size_of.ensures in
+    (same, rw same (inside_within _))

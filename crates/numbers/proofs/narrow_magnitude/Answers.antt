@@ -1,7 +1,6 @@
 -- `numbers::narrow_magnitude` meets its contract: each arm is a case of `proofs/Conversion.antt`. Assumes nothing.
-use Rattle.std.proofs.Common.{ℕ, ◌-◌, ◌*◌, ◌^◌, ◌≤◌, ◌≡◌, min, sym, subst, le_of_lt, rules}
+use Rattle.std.proofs.Common.{ℕ, ◌-◌, ◌*◌, ◌^◌, ◌≤◌, ◌≡◌, min, sym, subst}
 use lib.Ieee.Nearest.{closest}
-use native.Mathlib.Nat.{min-eq_left, min-eq_right}
 use Rattle.numbers.specs.Private.{Narrows}
 use Rattle.numbers.proofs.Conversion.{normal_narrows, subnormal_narrows, zero_narrows}
 use Rattle.numbers.proofs.narrow_magnitude.Goals as goal
@@ -11,32 +10,14 @@ at_most : (a r : ℕ) → 0x3810_0000_0000_0000 ≤ a → a ≤ 2047 * 2 ^ 52 �
     → Narrows a (min r 0x7f80_0000)
 at_most a r from small e = subst (λ (x : ℕ). Narrows a (min x 0x7f80_0000)) (sym e) (normal_narrows a from small)
 
-pub overflow_sub-a : goal.overflow_sub-a
-overflow_sub-a c = search rules
-
-pub rounded-r-requires : goal.rounded-r-requires
-rounded-r-requires c = search rules
-
-pub returns-then-r-lt-INFINITY : goal.returns-then-r-lt-INFINITY
-returns-then-r-lt-INFINITY c = subst (Narrows c.args.a) (min-eq_left (le_of_lt c.if-r-lt-INFINITY.true))
-    (at_most c.args.a _ c.if-a-ge-NORMAL.true c.requires c.rounded-r.ensures)
-
 pub returns-then-a-ge-NORMAL : goal.returns-then-a-ge-NORMAL
-returns-then-a-ge-NORMAL c = subst (Narrows c.args.a) (min-eq_right c.if-r-lt-INFINITY.false)
-    (at_most c.args.a _ c.if-a-ge-NORMAL.true c.requires c.rounded-r.ensures)
-
-pub overflow_add-a : goal.overflow_add-a
-overflow_add-a c = search rules
-
-pub overflow_sub-a-then-a-ge-HALF_SMALLEST : goal.overflow_sub-a-then-a-ge-HALF_SMALLEST
-overflow_sub-a-then-a-ge-HALF_SMALLEST c = search rules
-
-pub rounded-requires : goal.rounded-requires
-rounded-requires c = search rules
+returns-then-a-ge-NORMAL c =
+    subst (Narrows c.args.a) (sym c.min.ensures)
+    (at_most c.args.a _ c.if-a-ge-NORMAL.true c.requires c.rounded.ensures)
 
 pub returns-then-a-ge-HALF_SMALLEST : goal.returns-then-a-ge-HALF_SMALLEST
 returns-then-a-ge-HALF_SMALLEST c =
-    subst (Narrows c.args.a) (sym c.rounded.ensures)
+    subst (Narrows c.args.a) (sym c.rounded-then-a-ge-HALF_SMALLEST.ensures)
     (subnormal_narrows c.args.a c.if-a-ge-HALF_SMALLEST.true c.if-a-ge-NORMAL.false)
 
 pub returns : goal.returns

@@ -10,9 +10,6 @@ use Rattle.pitch.proofs.lags.Goals as goal
 pub loop-i-init : goal.loop-i-init
 loop-i-init c = search turns
 
-pub lag-error-requires : goal.lag-error-requires
-lag-error-requires c = search turns
-
 -- the turn that leaves the loop
 pub returns-then-error-ac : goal.returns-then-error-ac
 returns-then-error-ac c =

@@ -7,6 +7,3 @@ loop-j-init c = search turns
 
 pub loop-j-preserved : goal.loop-j-preserved
 loop-j-preserved c = search turns
-
-pub returns : goal.returns
-returns c = search turns

@@ -1,16 +1,10 @@
 -- `pitch::xcorr_rest` meets its contract. Assumes nothing.
-use Rattle.rules.proofs.Common.{refl, ◌∙◌, length, length-set}
+use Rattle.rules.proofs.Common.{◌∙◌, length, length-set}
 use native.Mathlib.Omega.{arith}
-use Rattle.rules.proofs.Lists.{tab_front, tab_more, tab_done}
+use Rattle.rules.proofs.Lists.{tab_more, tab_done}
 use Rattle.pitch.specs.Xcorr.{pitch_xcorr}
 use Rattle.pitch.proofs.Starts.{behind_fours}
 use Rattle.pitch.proofs.xcorr_rest.Goals as goal
-
-pub loop-i-init : goal.loop-i-init
-loop-i-init c = (omega arith, omega arith, refl, tab_front _ _ _ c.requires.fours_done)
-
-pub corr1-requires : goal.corr1-requires
-corr1-requires c = omega (arith, c.requires.lengths_fit.enough (omega arith))
 
 pub loop-i-preserved : goal.loop-i-preserved
 loop-i-preserved c =

@@ -1,11 +1,8 @@
 -- `pitch_search::find_best_pitch_core` meets its contract. Assumes nothing.
-use Rattle.std.specs.Prelude.{◌≤◌, ◌≡◌}
-use Rattle.rules.proofs.Common.{length}
+use Rattle.std.specs.Prelude.{◌≡◌}
 use Rattle.rules.specs.Loop.{loop}
 use Rattle.pitch_search.specs.Best.{pitch_step}
-use Rattle.pitch_search.specs.Private.{search_in}
 use Rattle.pitch_search.proofs.find_best_pitch_core.Given as goal
 
 abbrev pub invariant-loop-i : goal.invariant-loop-i
-invariant-loop-i l = (l.i ≤ l.i-end) × (l.i-end ≡ length l.xcorr)
-    × (search_in l.b ≡ loop l.i (pitch_step l.xcorr l.ys l.len) (search_in l.initial.b))
+invariant-loop-i l = l.s ≡ loop l.i (pitch_step l.xcorr l.ys l.len) l.initial.s

@@ -1,31 +1,25 @@
-use Rattle.std.specs.Prelude.{◌+◌}
-use Rattle.rules.proofs.Common.{refl, sym, ◌∙◌}
+use Rattle.std.specs.Prelude.{◌-◌}
+use Rattle.rules.proofs.Common.{sym, ◌∙◌, length, drop, length-drop}
+use borrow.Author.Tests.{eqb-true, eqb-false}
+use lib.Seq.{take_all}
 use native.Mathlib.Omega.{arith}
-use Rattle.rules.proofs.Loops.{turns}
-use Rattle.recording.proofs.Running.{run_part, part_long, run_ended}
+use Rattle.recording.proofs.Running.{run_none, run_next}
 use Rattle.recording.proofs.more.Goals as goal
 
-pub loop-i-init : goal.loop-i-init
-loop-i-init c = (omega arith, refl)
-
-pub audio_in-requires : goal.audio_in-requires
-audio_in-requires c = search turns
-
-pub on-requires : goal.on-requires
-on-requires c =
-    rw (part_long c.args.bytes.now c.loop-i.i
-    c.audio_in.result (omega arith)) c.audio_in.ensures.1
-
-pub step-now-requires : goal.step-now-requires
-step-now-requires c = search turns
-
-pub loop-i-preserved : goal.loop-i-preserved
-loop-i-preserved c =
-    let l = c.loop-i in (
-      omega arith,
-      l.invariant.1 ∙ run_part _ _ l.i (l.i + c.audio_in.result) (omega arith)
-          (omega arith) ∙ rw (← c.on.ensures, ← c.step-now.ensures),
+pub loop-rest-preserved : goal.loop-rest-preserved
+loop-rest-preserved c =
+    let l = c.loop-rest in
+    let others = c.split_at.result.1.now in
+    let some = eqb-false _ 0 (sym c.is_empty.ensures ∙ c.loop-rest-test.true) in
+    l.invariant ∙ run_next _ _ c.audio_in.result (omega (arith, some))
+    ∙ rw (
+      ← c.split_at.ensures.front,
+      ← c.split_at.ensures.back,
+      take_all (length others - 1) (drop 1 others) (simp length-drop (omega arith)),
+      ← c.on.ensures,
+      ← c.step-now.ensures,
     )
 
 pub returns : goal.returns
-returns c = let l = c.loop-i in sym (l.invariant.1 ∙ run_ended _ _ l.i (omega arith))
+returns c =
+    run_none _ _ (eqb-true _ 0 (sym c.is_empty.ensures ∙ c.loop-rest-test.false)) ∙ sym c.loop-rest.invariant

@@ -12,5 +12,5 @@ total-sum-requires c = simp length-take (omega arith)
 pub returns : goal.returns
 returns c =
     closing c.args.out.now
-    _ _ (c.copy.ensures ∙ c.trailer_of-bytes.ensures)
+    _ _ (c.copy_from_slice.ensures.after ∙ c.trailer_of-bytes.ensures)
     c.total-sum.ensures.0 c.requires.0

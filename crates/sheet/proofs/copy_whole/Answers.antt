@@ -9,14 +9,14 @@ use Rattle.sheet.proofs.copy_whole.Goals as goal
 pub returns-then-out-size : goal.returns-then-out-size
 returns-then-out-size c = rw (lt-ltb _ _ c.if-out-size.true)
 
-pub slice_bounds-copy-end-2 : goal.slice_bounds-copy-end-2
-slice_bounds-copy-end-2 c = simp length-take (omega arith)
+pub slice_bounds-copy_from_slice-end-2 : goal.slice_bounds-copy_from_slice-end-2
+slice_bounds-copy_from_slice-end-2 c = simp length-take (omega arith)
 
-pub copy-requires : goal.copy-requires
-copy-requires c = simp length-take (omega arith)
+pub copy_from_slice-requires : goal.copy_from_slice-requires
+copy_from_slice-requires c = simp length-take (omega arith)
 
 pub returns : goal.returns
 returns c =
-    rw (le-ltb _ _ c.if-out-size.false, c.copy.ensures)
+    rw (le-ltb _ _ c.if-out-size.false, c.copy_from_slice.ensures.after)
     (leave_both (all_stored c.args.numbers.now (length c.args.file.now ∷ c.args.records ∷ []) c.requires)
     refl)

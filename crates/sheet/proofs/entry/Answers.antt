@@ -1,7 +1,8 @@
 use Rattle.std.specs.Prelude.{◌∷◌}
-use Rattle.rules.proofs.Common.{[], sym, ◌∙◌}
+use Rattle.rules.proofs.Common.{[]}
 use native.Mathlib.Omega.{arith}
 use borrow.Author.Tests.{eq-eqb}
+use Rattle.std.proofs.lemmas.Result.{err_from_is_err_and}
 use Rattle.rules.proofs.Refusals.{leaves}
 use Rattle.rules.proofs.Places.{all_stored}
 use Rattle.rules.proofs.Tests.{tests}
@@ -13,35 +14,33 @@ pub returns-then-entry-ne1 : goal.returns-then-entry-ne1
 unfolding entry_at
 returns-then-entry-ne1 c = search tests
 
-pub returns-then-records-index : goal.returns-then-records-index
+pub returns-in_err-found : goal.returns-in_err-found
 unfolding entry_at
-returns-then-records-index c =
-    let told = sym c.in-Good.is ∙ c.read.ensures in
-    rw (eq-eqb _ 1 c.if-entry-ne1.false, entry_none _ _ _ told c.if-records-index.true)
+returns-in_err-found c =
+    let p = err_from_is_err_and c.from_residual.result c.from_residual.ensures.1 in
+    rw (p.1, p.2, eq-eqb _ 1 c.if-entry-ne1.false, entry_refused _ _ _ c.in_err-found.ensures)
+
+pub returns-then-found-index : goal.returns-then-found-index
+unfolding entry_at
+returns-then-found-index c =
+    rw (eq-eqb _ 1 c.if-entry-ne1.false, entry_none _ _ _ c.in_ok-found.ensures c.if-found-index.true)
 
 pub overflow_mul-index : goal.overflow_mul-index
-overflow_mul-index c =
-    let told = sym c.in-Good.is ∙ c.read.ensures in
-    omega (arith, read_within _ told)
+overflow_mul-index c = omega (arith, read_within _ c.in_ok-found.ensures)
 
-pub overflow_add-start : goal.overflow_add-start
-overflow_add-start c =
-    let told = sym c.in-Good.is ∙ c.read.ensures in
-    omega (arith, read_within _ told)
+pub overflow_add-found : goal.overflow_add-found
+overflow_add-found c = omega (arith, read_within _ c.in_ok-found.ensures)
 
 pub entry_of-requires : goal.entry_of-requires
-entry_of-requires c =
-    let told = sym c.in-Good.is ∙ c.read.ensures in
-    omega (arith, read_within _ told)
+entry_of-requires c = omega (arith, read_within _ c.in_ok-found.ensures)
 
-pub returns-else-records-index : goal.returns-else-records-index
+pub returns : goal.returns
 unfolding entry_at
-returns-else-records-index c =
-    let told = sym c.in-Good.is ∙ c.read.ensures in
+returns c =
     let one = c.if-entry-ne1.false in
-    rw (eq-eqb _ 1 one, entry_found _ _ _ told c.if-records-index.false, ← c.entry_of.ensures)
+    rw (
+      eq-eqb _ 1 one,
+      entry_found _ _ _ c.in_ok-found.ensures c.if-found-index.false,
+      ← c.entry_of.ensures,
+    )
     (leaves (all_stored c.args.entry.now (c.entry_of.result ∷ []) one))
-
-pub returns-in-Refused : goal.returns-in-Refused
-unfolding entry_at
-returns-in-Refused c = rw (eq-eqb _ 1 c.if-entry-ne1.false, entry_refused _ _ _ (sym c.in-Refused.is ∙ c.read.ensures))

@@ -70,16 +70,16 @@ overflow_cast-side c =
           (c.args.at + 5),
     )
 
-pub slice_bounds-copy-end-2 : goal.slice_bounds-copy-end-2
-slice_bounds-copy-end-2 c = simp length-take (omega arith)
+pub slice_bounds-copy_from_slice-end-2 : goal.slice_bounds-copy_from_slice-end-2
+slice_bounds-copy_from_slice-end-2 c = simp length-take (omega arith)
 
-pub slice_bounds-copy-end-3 : goal.slice_bounds-copy-end-3
-slice_bounds-copy-end-3 c =
+pub slice_bounds-copy_from_slice-end-3 : goal.slice_bounds-copy_from_slice-end-3
+slice_bounds-copy_from_slice-end-3 c =
     simp length-take
     (omega (arith, within c.args.file.now c.args.at _ c.requires.1 c.kept_of-records.ensures))
 
-pub copy-requires : goal.copy-requires
-copy-requires c =
+pub copy_from_slice-requires : goal.copy_from_slice-requires
+copy_from_slice-requires c =
     simp length-take
     (omega (
       arith,
@@ -95,7 +95,7 @@ close-requires c =
     (some_kept c.args.file.now c.args.at _ c.requires.1 c.kept_of-records.ensures c.if-records-eq0.false)) in (
       part_size s c.args.at c.requires.1 (kept_there c.args.file.now c.args.at _ c.requires.1 c.kept_of-records.ensures)
           c.args.out.now
-          c.copy.ensures
+          c.copy_from_slice.ensures.after
           c.if-out-size.false,
       omega (arith, c.if-records-gt536870911.false),
       omega (arith, known),
@@ -126,7 +126,7 @@ returns c =
     c.requires.0 in
     let laid = lay_anew s at c.requires.1 (kept_there c.args.file.now c.args.at _ c.requires.1
     c.kept_of-records.ensures) out (λ i. omega (arith, c.type_inv.file i)) (sym (get_or-drop at s 5 0))
-    c.copy.ensures c.close.ensures in
+    c.copy_from_slice.ensures.after c.close.ensures in
     rw (
       ← by_run c.args.file.now c.args.at c.args.numbers.now c.args.out.now c.requires.0 c.requires.1 c.requires.2,
       ne_eqb (kept (drop at s)) 0 some,

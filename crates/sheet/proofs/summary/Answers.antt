@@ -1,6 +1,7 @@
 use Rattle.std.specs.Prelude.{◌∷◌}
-use Rattle.rules.proofs.Common.{[], sym, ◌∙◌}
+use Rattle.rules.proofs.Common.{[]}
 use borrow.Author.Tests.{eq-eqb}
+use Rattle.std.proofs.lemmas.Result.{err_from_is_err_and}
 use Rattle.rules.proofs.Tests.{tests}
 use Rattle.rules.proofs.Refusals.{leaves}
 use Rattle.rules.proofs.Places.{all_stored}
@@ -11,14 +12,16 @@ pub returns-then-numbers-ne3 : goal.returns-then-numbers-ne3
 unfolding sheet_summary
 returns-then-numbers-ne3 c = search tests
 
-pub returns-in-Good : goal.returns-in-Good
+pub returns-in_err-found : goal.returns-in_err-found
 unfolding sheet_summary
-returns-in-Good c =
-    let three = c.if-numbers-ne3.false in
-    rw (eq-eqb _ 3 three, ← sym c.in-Good.is ∙ c.read.ensures)
-    (leaves (all_stored c.args.numbers.now
-    (c.in-Good.start ∷ c.in-Good.records ∷ c.in-Good.side ∷ []) three))
+returns-in_err-found c =
+    let p = err_from_is_err_and c.from_residual.result c.from_residual.ensures.1 in
+    rw (p.1, p.2, eq-eqb _ 3 c.if-numbers-ne3.false, ← c.in_err-found.ensures)
 
-pub returns-in-Refused : goal.returns-in-Refused
+pub returns : goal.returns
 unfolding sheet_summary
-returns-in-Refused c = rw (eq-eqb _ 3 c.if-numbers-ne3.false, ← sym c.in-Refused.is ∙ c.read.ensures)
+returns c =
+    let three = c.if-numbers-ne3.false in
+    let found = c.in_ok-found.found in
+    rw (eq-eqb _ 3 three, ← c.in_ok-found.ensures)
+    (leaves (all_stored c.args.numbers.now (found.start ∷ found.records ∷ found.side ∷ []) three))

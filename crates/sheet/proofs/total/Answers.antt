@@ -5,19 +5,16 @@ use Rattle.rules.specs.Lists.{sum}
 use Rattle.sheet.proofs.Runs.{sum_more}
 use Rattle.sheet.proofs.total.Goals as goal
 
-pub loop-i-init : goal.loop-i-init
-loop-i-init c = (omega arith, refl, omega arith, refl)
-
-pub overflow_cast-sum : goal.overflow_cast-sum
-overflow_cast-sum c = omega (arith, c.shared_slice_known-1.given c.loop-i.i)
+pub loop-byte-init : goal.loop-byte-init
+loop-byte-init c = (omega arith, refl, omega arith, refl)
 
 pub overflow_add-sum : goal.overflow_add-sum
-overflow_add-sum c = omega (arith, c.shared_slice_known-1.given c.loop-i.i)
+overflow_add-sum c = omega (arith, c.type_inv.bytes c.loop-byte.byte-index)
 
-pub loop-i-preserved : goal.loop-i-preserved
-loop-i-preserved c =
-    let l = c.loop-i in let b = c.shared_slice_known-1.given l.i in
-    (omega arith, refl, omega arith, sum_more _ l.i (omega arith) l.invariant.3)
+pub loop-byte-preserved : goal.loop-byte-preserved
+loop-byte-preserved c =
+    let l = c.loop-byte in let b = c.type_inv.bytes l.byte-index in
+    (omega arith, refl, omega arith, sum_more _ l.byte-index (omega arith) l.invariant.3)
 
 pub returns : goal.returns
-returns c = let l = c.loop-i in (l.invariant.3 ∙ ap sum (take_all l.i _ (omega arith)), omega arith)
+returns c = let l = c.loop-byte in (l.invariant.3 ∙ ap sum (take_all l.byte-index _ (omega arith)), omega arith)

@@ -3,6 +3,7 @@ use Rattle.rules.proofs.Common.{length, take}
 use Rattle.rules.specs.Lists.{sum}
 use Rattle.sheet.proofs.total.Given as goal
 
-abbrev pub invariant-loop-i : goal.invariant-loop-i
-invariant-loop-i l = (l.i ≤ l.i-end) × (l.i-end ≡ length l.bytes) × (l.sum ≤ 255 * l.i)
-    × (l.sum ≡ sum (take l.i l.bytes))
+abbrev pub invariant-loop-byte : goal.invariant-loop-byte
+invariant-loop-byte l = (l.byte-index ≤ l.byte-index-end) × (l.byte-index-end ≡ length l.bytes)
+    × (l.sum ≤ 255 * l.byte-index)
+    × (l.sum ≡ sum (take l.byte-index l.bytes))

@@ -11,8 +11,8 @@ loop-i-init c = (omega arith, refl, c.requires.0, refl)
 pub record_of-bytes-requires : goal.record_of-bytes-requires
 record_of-bytes-requires c = (c.requires.1, c.requires.2 c.loop-i.i)
 
-pub copy-requires : goal.copy-requires
-copy-requires c =
+pub copy_from_slice-requires : goal.copy_from_slice-requires
+copy_from_slice-requires c =
     let size = ap length c.record_of-bytes.ensures ∙ length_record _ _ in
     simp (length-take, length-drop) (omega arith)
 
@@ -20,7 +20,7 @@ pub loop-i-preserved : goal.loop-i-preserved
 loop-i-preserved c =
     let l = c.loop-i in
     let next = lay_more _ _ l.i c.args.out.now (omega arith)
-    (c.copy.ensures ∙ c.record_of-bytes.ensures) l.invariant.3 in
+    (c.copy_from_slice.ensures.after ∙ c.record_of-bytes.ensures) l.invariant.3 in
     (omega arith, refl, ap length next ∙ length_laid _ _ (l.i + 1) _ (omega arith) c.requires.0, next)
 
 pub returns : goal.returns

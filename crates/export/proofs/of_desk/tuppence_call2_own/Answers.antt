@@ -5,9 +5,9 @@ use Rattle.export.proofs.Handed.{hands_back, handed}
 use Rattle.export.proofs.of_desk.tuppence_call2_own.Goals as goal
 
 pub hand_back-requires : goal.hand_back-requires
-hand_back-requires c = hands_back _ _ _ _ _ _ _ _ _ c.record_in.ensures c.call2_own-given.ensures
+hand_back-requires c = hands_back _ _ _ _ _ _ _ _ c.call2_own-given.result c.record_in.ensures c.call2_own-given.ensures
 
 pub returns : goal.returns
 returns c =
-    handed _ _ _ _ _ _ _ _ _ c.record_in.ensures c.call2_own-given.ensures
-    c.hand_back.ensures refl
+    handed _ _ _ _ _ _ _ _ c.call2_own-given.result c.record_in.ensures c.call2_own-given.ensures
+    c.hand_back.ensures (λ _. refl)

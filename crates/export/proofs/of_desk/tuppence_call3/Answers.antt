@@ -20,19 +20,19 @@ unfolding get
 tell-requires c =
     let a = c.args in
     three _ _ _ _ _ (call3 a.spectrum.now a.logs.now a.model.now) a.out.now a.answer.now _ []
-    [] _ c.places-end.result
+    [] c.call3-given.result c.places-end.result
     (no_out BENCHES _ _ _ a.spectrum.now a.logs.now a.model.now) (λ _. refl) (λ _ _. refl)
     c.record_in.ensures c.places-end.ensures c.call3-given.ensures
 
 pub hand_back-requires : goal.hand_back-requires
-hand_back-requires c = hands_back _ _ _ _ _ _ _ _ _ c.record_in.ensures c.call3-given.ensures
+hand_back-requires c = hands_back _ _ _ _ _ _ _ _ c.call3-given.result c.record_in.ensures c.call3-given.ensures
 
 pub returns : goal.returns
 unfolding get put
 returns c =
     let a = c.args in
     handed_three _ _ _ _ _ (call3 a.spectrum.now a.logs.now a.model.now) a.out.now
-    a.answer.now _ [] [] _ c.places-end.result
+    a.answer.now _ [] [] c.call3-given.result c.places-end.result
     (no_out BENCHES _ _ _ a.spectrum.now a.logs.now a.model.now) (λ _. refl) (λ _ _. refl)
     c.record_in.ensures c.places-end.ensures c.call3-given.ensures
     (omega (arith, c.call3-given.auto)) c.tell.ensures c.hand_back.ensures

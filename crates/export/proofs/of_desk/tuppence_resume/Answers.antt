@@ -21,20 +21,20 @@ unfolding get
 tell-requires c =
     let a = c.args in
     three _ _ _ _ _ (λ n. resume a.samples.now a.logs.now a.model.now n (length a.sums.now))
-    a.out.now a.answer.now _ (a.sums.now ∷ []) _ _
+    a.out.now a.answer.now _ (a.sums.now ∷ []) _ c.resume-given.result
     c.places-end.result (no_resume_out BENCHES _ _ _ a.samples.now a.logs.now a.model.now
     (length a.sums.now)) (λ _. refl) (λ _ _. refl)
     c.record_in.ensures c.places-end.ensures c.resume-given.ensures
 
 pub hand_back-requires : goal.hand_back-requires
-hand_back-requires c = hands_back _ _ _ _ _ _ _ _ _ c.record_in.ensures c.resume-given.ensures
+hand_back-requires c = hands_back _ _ _ _ _ _ _ _ c.resume-given.result c.record_in.ensures c.resume-given.ensures
 
 pub returns : goal.returns
 unfolding get put
 returns c =
     let a = c.args in
     handed_three _ _ _ _ _ (λ n. resume a.samples.now a.logs.now a.model.now n (length a.sums.now))
-    a.out.now a.answer.now _ (a.sums.now ∷ []) _ _
+    a.out.now a.answer.now _ (a.sums.now ∷ []) _ c.resume-given.result
     c.places-end.result (no_resume_out BENCHES _ _ _ a.samples.now a.logs.now a.model.now
     (length a.sums.now)) (λ _. refl) (λ _ _. refl)
     c.record_in.ensures c.places-end.ensures c.resume-given.ensures

@@ -20,19 +20,20 @@ unfolding get
 tell-requires c =
     let a = c.args in
     three _ _ _ _ _ (second_half a.logs.now a.model.now) a.out.now a.answer.now _ []
-    [] _ c.places-end.result
+    [] c.second_half-given.result c.places-end.result
     (no_half_out BENCHES _ _ _ a.logs.now a.model.now) (λ _. refl) (λ _ _. refl) c.record_in.ensures
     c.places-end.ensures c.second_half-given.ensures
 
 pub hand_back-requires : goal.hand_back-requires
-hand_back-requires c = hands_back _ _ _ _ _ _ _ _ _ c.record_in.ensures c.second_half-given.ensures
+hand_back-requires c =
+    hands_back _ _ _ _ _ _ _ _ c.second_half-given.result c.record_in.ensures c.second_half-given.ensures
 
 pub returns : goal.returns
 unfolding get put
 returns c =
     let a = c.args in
     handed_three _ _ _ _ _ (second_half a.logs.now a.model.now) a.out.now a.answer.now _ []
-    [] _ c.places-end.result
+    [] c.second_half-given.result c.places-end.result
     (no_half_out BENCHES _ _ _ a.logs.now a.model.now) (λ _. refl) (λ _ _. refl) c.record_in.ensures
     c.places-end.ensures c.second_half-given.ensures
     (omega (arith, c.second_half-given.auto)) c.tell.ensures c.hand_back.ensures

@@ -1,46 +1,49 @@
 -- `tuppence_feed` meets its contract: it is a feed, and its answer is handed back as numbers. Assumes nothing.
-use Rattle.std.specs.Prelude.{◌∷◌, ◌≡◌}
-use Rattle.rules.proofs.Common.{ℕ, cond, List, [], ap₂, length, Float}
+use Rattle.std.specs.Prelude.{◌∷◌, ◌≡◌, Result}
+use Rattle.rules.proofs.Common.{ℕ, List, [], ap₂, length, Float}
 use Rattle.frame.specs.Effect.{WorkedBoth}
-use Rattle.frame.specs.Reply.{passed}
-use Rattle.desk.specs.declared.Answer.{Answer}
+use Rattle.frame.specs.declared.answer.Told.{Told}
+use Rattle.frame.specs.declared.answer.Cause.{Cause}
+use Rattle.desk.specs.Answer.{answer_of}
 use Rattle.desk.specs.declared.Record.{Record}
 use Rattle.desk.specs.Gate.{BENCHES}
-use Rattle.desk.specs.Surface.{record_in, numbers_of, reply_number}
+use Rattle.desk.specs.Surface.{record_in}
 use Rattle.desk.specs.Surface as surface
 use Rattle.feed.specs.Feed.{Block, block_of, feed}
 use Rattle.feed.specs.Surface.{hosted_feed}
-use Rattle.feed.proofs.Ranged.{feed_small, feed_range, feed_seated}
+use Rattle.feed.proofs.Ranged.{feed_range, feed_seated}
 use Rattle.export.specs.Private.{HandsBack}
+use Rattle.export.proofs.Given.{Handed}
 use Rattle.export.proofs.Given as any
 use Rattle.export.proofs.of_feed.tuppence_feed.Goals as goal
 
 -- the record as the code has it, and what the feed left
 module _ (side : ℕ) (ns : List ℕ) (b : Record) (store : List Float) (block : Block) (model cleaned records : List ℕ)
     (answers : List Float)
-    {store' : List Float} {cleaned' records' : List ℕ} {answers' : List Float} {given : Answer}
+    {store' : List Float} {cleaned' records' : List ℕ} {answers' : List Float}
+    (given : Result (Told × Record) Cause)
     (read : b ≡ record_in side ns)
-    (fed : WorkedBoth (feed BENCHES side b store block model (length cleaned) (length records) (length answers)) given
-    store'
+    (fed : WorkedBoth (feed BENCHES side b store block model (length cleaned) (length records) (length answers))
+    (answer_of b given) store'
     (answers ∷ []) (answers' ∷ []) (cleaned ∷ records ∷ []) (cleaned' ∷ records' ∷ [])) where
-  hands_back : HandsBack side ns given
+  hands_back : HandsBack side ns (answer_of (record_in side ns) given)
   hands_back =
-      any.hands_back side ns b read
+      any.hands_back side ns b given read
       (record {
-        small = feed_small BENCHES side b store block model (length cleaned) (length records) (length answers);
         ranged = feed_range BENCHES side b store block model (length cleaned) (length records) (length answers);
         seated = feed_seated BENCHES side b store block model (length cleaned) (length records) (length answers);
       })
       fed.floats.answers
 
   handed : {number : ℕ} {ns' : List ℕ}
-      → (number ≡ reply_number given.reply) × (ns' ≡ cond (passed given.reply) (numbers_of side given.rec) ns)
+      → Handed side ns (record_in side ns) given number ns'
       → WorkedBoth (surface.handed side ns
       (hosted_feed BENCHES side ns store block model (length cleaned) (length records) (length answers)))
       (number, ns') store'
       (answers ∷ []) (answers' ∷ []) (cleaned ∷ records ∷ []) (cleaned' ∷ records' ∷ [])
   unfolding hosted_feed
-  handed h =
+  handed back =
+      let h : Handed side ns b given _ _ = rw (← read) at back in
       rw (← read)
       (record {
         floats =
@@ -57,11 +60,11 @@ hand_back-requires c =
     let a = c.args in
     hands_back a.side _ _ a.store.now (block_of a.bytes.now a.format a.channels a.channel)
     a.model.now a.out.now a.records.now a.answers.now
-    c.record_in.ensures c.feed-given.ensures
+    c.feed-given.result c.record_in.ensures c.feed-given.ensures
 
 pub returns : goal.returns
 returns c =
     let a = c.args in
     handed a.side _ _ a.store.now (block_of a.bytes.now a.format a.channels a.channel)
     a.model.now a.out.now a.records.now a.answers.now
-    c.record_in.ensures c.feed-given.ensures c.hand_back.ensures
+    c.feed-given.result c.record_in.ensures c.feed-given.ensures c.hand_back.ensures

@@ -7,7 +7,7 @@ use Rattle.desk.specs.declared.Record.{Record}
 use Rattle.desk.specs.Gate.{BENCHES}
 use Rattle.whole.specs.Whole.{frame}
 use Rattle.whole.specs.Surface.{hosted_frame}
-use Rattle.whole.proofs.Ranged.{frame_small, frame_range, frame_seated, frame_buffers, frame_no_out}
+use Rattle.whole.proofs.Ranged.{frame_range, frame_seated, frame_buffers, frame_no_out}
 use Rattle.export.proofs.Given.{Sound, Telling, hands_back, no_more, three, told_three}
 use Rattle.export.proofs.of_whole.tuppence_frame.Goals as goal
 
@@ -15,7 +15,6 @@ module _ (side : ℕ) (b : Record) (store samples : List Float) (model : List �
   sound : (out : ℕ) → Sound side b (frame BENCHES side b store samples model out).answer
   sound out =
       record {
-        small = frame_small BENCHES side b store samples model out;
         ranged = frame_range BENCHES side b store samples model out;
         seated = frame_seated BENCHES side b store samples model out;
       }
@@ -36,15 +35,15 @@ pub tell-requires : goal.tell-requires
 unfolding get
 tell-requires c =
     let a = c.args in
-    three a.side [] _ (frame BENCHES a.side c.record_in.result a.store.now a.samples.now
-    a.model.now) a.out.now a.answer.now _ [] [] _ c.places-end.result
-    (known a.side c.record_in.result a.store.now a.samples.now a.model.now) c.places-end.ensures
+    three a.side _ _ (frame BENCHES a.side c.record_in.result a.store.now a.samples.now
+    a.model.now) a.out.now a.answer.now _ [] [] _ c.frame-given.result c.places-end.result
+    c.record_in.ensures (known a.side c.record_in.result a.store.now a.samples.now a.model.now) c.places-end.ensures
     c.frame-given.ensures
 
 pub hand_back-requires : goal.hand_back-requires
 hand_back-requires c =
     let a = c.args in
-    hands_back a.side _ _ c.record_in.ensures
+    hands_back a.side _ _ c.frame-given.result c.record_in.ensures
     (sound a.side c.record_in.result a.store.now a.samples.now a.model.now _)
     c.frame-given.ensures.answers
 
@@ -54,7 +53,7 @@ returns c =
     let a = c.args in
     rw (← c.record_in.ensures)
     (told_three a.side _ _ (frame BENCHES a.side c.record_in.result a.store.now a.samples.now
-    a.model.now) a.out.now a.answer.now _ [] [] _ c.places-end.result
-    (known a.side c.record_in.result a.store.now a.samples.now a.model.now) c.places-end.ensures
+    a.model.now) a.out.now a.answer.now _ [] [] _ c.frame-given.result c.places-end.result
+    c.record_in.ensures (known a.side c.record_in.result a.store.now a.samples.now a.model.now) c.places-end.ensures
     c.frame-given.ensures
     (omega (arith, c.frame-given.auto)) c.tell.ensures c.hand_back.ensures)

@@ -1,6 +1,6 @@
 -- `features::cepstra::add_deltas` meets its contract: what its parts ensure, put together. Assumes nothing.
 use Rattle.std.specs.Prelude.{◌≡◌}
-use Rattle.rules.proofs.Common.{ℕ, List, length, set, length-set, Float}
+use Rattle.rules.proofs.Common.{ℕ, List, length, set, Float}
 use native.Mathlib.Omega.{arith}
 use Rattle.rules.specs.F32.{part}
 use Rattle.rules.specs.Place.{put}
@@ -22,16 +22,13 @@ together l a b d mem index c1 c2 v all one two p q r s =
     = λ of. length_deltas of mem index (back index 1) (back index 2) in
     rw (p, q, r, s, one, two) (laid_out l _ _ _ _ all (six smoothed) (six slope) (six bend))
 
-pub shape_of-features : goal.shape_of-features
-shape_of-features c = simp length-set (omega arith)
-
 pub returns : goal.returns
 unfolding put
 returns c =
     together c.args.features.now c.delta_rows.new.out c.delta_rows-2.new.out
     c.delta_rows-3.new.out
-    c.args.mem.now c.args.index c.row_back-c1.result c.row_back-c2.result
+    c.args.mem.now c.args.newest.index c.back-c1.result.index c.back-c2.result.index
     c.spectral_variability.result
-    c.requires.0 c.row_back-c1.ensures.0 c.row_back-c2.ensures.0
+    (omega arith) c.back-c1.ensures c.back-c2.ensures
     c.delta_rows.ensures c.delta_rows-2.ensures c.delta_rows-3.ensures
     c.spectral_variability.ensures

@@ -1,5 +1,4 @@
 -- `features::heard::normalise` meets its contract. Assumes nothing.
-use Rattle.std.specs.Prelude.{◌-◌, ◌≤◌}
 use Rattle.rules.proofs.Common.{binary32}
 use Rattle.rules.specs.F32.{◌⊕◌, ◌⊗◌, ◌⊘◌, at, f32}
 use Rattle.rules.proofs.Lists.{Filling}
@@ -7,8 +6,5 @@ use Rattle.numbers.specs.Root.{root}
 use Rattle.features.proofs.heard.normalise.Given as goal
 
 abbrev pub invariant-loop-i : goal.invariant-loop-i
-invariant-loop-i l = (l.i ≤ 22) × Filling (λ k. at l.initial.exp k ⊘ root binary32
+invariant-loop-i l = Filling (λ k. at l.initial.exp k ⊘ root binary32
     (f32 0x3A83126F ⊕ at l.ex k ⊗ at l.ep k)) l.initial.exp l.i l.exp
-
-abbrev pub decreases-loop-i : goal.decreases-loop-i
-decreases-loop-i l = 22 - l.i

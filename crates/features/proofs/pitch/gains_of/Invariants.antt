@@ -1,13 +1,9 @@
 -- `features::pitch::gains_of` meets its contract. Assumes nothing.
-use Prim.Native.Nat.{◌≤◌, ◌-◌}
 use Rattle.rules.specs.F32.{at}
 use Rattle.rules.proofs.Lists.{Filling}
 use Rattle.features.specs.Pitch.{band_pitch_gain}
 use Rattle.features.proofs.pitch.gains_of.Given as goal
 
 abbrev pub invariant-loop-i : goal.invariant-loop-i
-invariant-loop-i l = (l.i ≤ 22) × Filling (λ k. band_pitch_gain (at l.gains k) (at l.exp k) (at l.ex k) (at l.ep k))
+invariant-loop-i l = Filling (λ k. band_pitch_gain (at l.gains k) (at l.exp k) (at l.ex k) (at l.ep k))
     l.initial.r l.i l.r
-
-abbrev pub decreases-loop-i : goal.decreases-loop-i
-decreases-loop-i l = 22 - l.i

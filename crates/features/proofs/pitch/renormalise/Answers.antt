@@ -1,26 +1,19 @@
 -- `features::pitch::renormalise` meets its contract. Assumes nothing.
 use Rattle.rules.proofs.Common.{nan}
 use native.Mathlib.Omega.{arith}
-use Rattle.rules.proofs.Lists.{fills, filling_more, filling_ahead}
+use Rattle.rules.proofs.Lists.{filling_begin, filling_more, filling_ended, filling_ahead}
 use Rattle.features.specs.Pitch.{renormalised}
 use Rattle.features.proofs.pitch.renormalise.Goals as goal
 
 pub loop-i-init : goal.loop-i-init
-unfolding renormalised
-loop-i-init c = search fills
-
-pub energy_ratio-requires : goal.energy_ratio-requires
-unfolding renormalised
-energy_ratio-requires c = search fills
+loop-i-init c = filling_begin _ _
 
 pub loop-i-preserved : goal.loop-i-preserved
 loop-i-preserved c =
-    let l = c.loop-i in (
-      omega arith,
-      filling_more _ _ _ l.invariant.1 (omega arith)
-          (rw (filling_ahead _ _ l.i l.i nan l.invariant.1 (omega arith)) at c.energy_ratio.ensures),
-    )
+    let l = c.loop-i in
+    filling_more _ _ l.i l.invariant (omega arith)
+    (rw (filling_ahead _ _ l.i l.i nan l.invariant (omega arith)) at c.energy_ratio.ensures)
 
 pub returns : goal.returns
 unfolding renormalised
-returns c = search fills
+returns c = filling_ended _ _ _ 22 (omega arith) (omega arith) (omega arith) c.loop-i.invariant

@@ -9,9 +9,9 @@ returns c =
     c.args.c.now
     c.args.z.now 477 (omega arith) (omega arith)
     c.requires
-    c.any_bin-w.ensures
-    c.any_bin-x.ensures
-    c.any_bin-y.ensures
-    c.any_bin-v.ensures
+    c.bin-w.ensures
+    c.bin-x.ensures
+    c.bin-y.ensures
+    c.bin_480-v.ensures
     c.put_four.ensures
     c.put_four-2.ensures

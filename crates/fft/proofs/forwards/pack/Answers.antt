@@ -8,11 +8,11 @@ use Rattle.fft.proofs.Laying.{begun, laid_single}
 use Rattle.fft.proofs.forwards.pack.Goals as goal
 
 pub loop-b-init : goal.loop-b-init
-loop-b-init c = (omega arith, begun 1 480 _ refl _ c.requires.0)
+loop-b-init c = (omega arith, begun 1 480 _ refl _ c.told-out)
 
 pub pack_block-requires : goal.pack_block-requires
 pack_block-requires c =
-    record { laid = c.loop-b.invariant.1; x_len = (c.requires.1, omega arith) }
+    record { laid = c.loop-b.invariant.1; room = omega arith }
 
 pub loop-b-preserved : goal.loop-b-preserved
 loop-b-preserved c =

@@ -6,7 +6,7 @@ use Rattle.fft.proofs.forwards.pack_block.Goals as goal
 pub returns : goal.returns
 returns c =
     laid_ones _ c.args.i
-    (omega (arith, c.requires.x_len))
+    (omega (arith, c.requires.room))
     c.requires.laid
     c.pair-w.ensures
     c.pair-y.ensures

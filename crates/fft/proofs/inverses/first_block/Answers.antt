@@ -11,8 +11,8 @@ returns c =
     laid_ones (merged_at single
     (of c.args.c.now)
     c.args.x.now) 0 (omega arith)
-    (begun 1 480 _ refl _ c.requires.0)
-    c.any_merged-w.ensures
-    c.any_merged-y.ensures
-    c.any_merged-u.ensures
-    c.any_merged-v.ensures c.put.ensures
+    (begun 1 480 _ refl _ c.told-out)
+    c.merged_0-w.ensures
+    c.merged-y.ensures
+    c.merged-u.ensures
+    c.merged-v.ensures c.put.ensures

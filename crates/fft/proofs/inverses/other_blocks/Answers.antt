@@ -7,11 +7,11 @@ use Rattle.fft.proofs.Laying.{laid_single}
 use Rattle.fft.proofs.inverses.other_blocks.Goals as goal
 
 pub loop-b-init : goal.loop-b-init
-loop-b-init c = (omega arith, c.requires.laid)
+loop-b-init c = (omega arith, c.requires)
 
 pub merge_block-requires : goal.merge_block-requires
 merge_block-requires c =
-    record { laid = c.loop-b.invariant.1; x_len = (c.requires.x_len, omega arith, omega arith) }
+    record { laid = c.loop-b.invariant.1; room = (omega arith, omega arith) }
 
 pub loop-b-preserved : goal.loop-b-preserved
 loop-b-preserved c =

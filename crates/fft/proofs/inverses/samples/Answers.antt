@@ -1,19 +1,13 @@
 -- `fft::inverses::samples` meets its contract. Assumes nothing.
 use Rattle.std.specs.Prelude.{◌+◌, ◌*◌, ◌≡◌}
 use native.Mathlib.Omega.{arith}
-use Rattle.rules.proofs.Common.{refl, length-set}
+use Rattle.rules.proofs.Common.{refl}
 use Rattle.rules.proofs.Lists.{filling_begin, filling_more, filling_ended}
 use Rattle.fft.proofs.Ends.{sample_even, sample_odd}
 use Rattle.fft.proofs.inverses.samples.Goals as goal
 
 pub loop-i-init : goal.loop-i-init
-loop-i-init c = (omega arith, c.requires, filling_begin _ _)
-
-pub bounds-out-i : goal.bounds-out-i
-bounds-out-i c = omega (arith, c.loop-i.invariant.2.same)
-
-pub bounds-out-i-in-loop-i : goal.bounds-out-i-in-loop-i
-bounds-out-i-in-loop-i c = simp length-set (omega (arith, c.loop-i.invariant.2.same))
+loop-i-init c = (omega arith, c.told-out, filling_begin _ _)
 
 pub loop-i-preserved : goal.loop-i-preserved
 loop-i-preserved c =

@@ -1,20 +1,15 @@
 -- `fft::stages::block3` meets its contract. Assumes nothing.
+use mathlib.Core.Path.{refl}
 use native.Mathlib.Omega.{arith}
-use Rattle.fft.proofs.Laying.{laid_threes}
+use Rattle.fft.proofs.Laying.{laid_bins}
 use Rattle.fft.proofs.stages.block3.Goals as goal
-
-pub put_threes-requires : goal.put_threes-requires
-put_threes-requires c = (
-  c.requires.laid.long,
-  omega (arith, c.requires.i_bound),
-)
 
 pub returns : goal.returns
 returns c =
-    laid_threes _ c.args.i
+    laid_bins 3 160 refl _ c.args.i
     (omega (arith, c.requires.i_bound))
     c.requires.laid
     c.lane3-w.ensures
     c.lane3-x.ensures
     c.lane3-y.ensures c.lane3-v.ensures
-    c.put_threes.ensures
+    c.put_bins.ensures

@@ -6,7 +6,7 @@ use Rattle.fft.proofs.Laying.{begun, laid_all}
 use Rattle.fft.proofs.stages.stage2.Goals as goal
 
 pub loop-b-init : goal.loop-b-init
-loop-b-init c = (omega arith, begun 2 240 _ refl _ c.requires)
+loop-b-init c = (omega arith, begun 2 240 _ refl _ c.told-out)
 
 pub block2-requires : goal.block2-requires
 block2-requires c = record { laid = c.loop-b.invariant.1; i_bound = omega arith }

@@ -6,7 +6,7 @@ use Rattle.fft.proofs.Laying.{begun, laid_all}
 use Rattle.fft.proofs.stages.stage4.Goals as goal
 
 pub loop-b-init : goal.loop-b-init
-loop-b-init c = (omega arith, begun 4 120 _ refl _ c.requires)
+loop-b-init c = (omega arith, begun 4 120 _ refl _ c.told-out)
 
 pub block4-requires : goal.block4-requires
 block4-requires c = record { laid = c.loop-b.invariant.1; i_bound = omega arith }

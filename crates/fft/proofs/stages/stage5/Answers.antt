@@ -6,7 +6,7 @@ use Rattle.fft.proofs.Laying.{begun, laid_all}
 use Rattle.fft.proofs.stages.stage5.Goals as goal
 
 pub loop-b-init : goal.loop-b-init
-loop-b-init c = (omega arith, begun 5 96 _ refl _ c.requires)
+loop-b-init c = (omega arith, begun 5 96 _ refl _ c.told-out)
 
 pub block5-requires : goal.block5-requires
 block5-requires c = record { laid = c.loop-b.invariant.1; i_bound = omega arith }

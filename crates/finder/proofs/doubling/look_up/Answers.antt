@@ -2,7 +2,7 @@
 use Rattle.rules.proofs.Common.{refl, length-set}
 use native.Mathlib.Omega.{arith}
 use borrow.Author.Tests.{ne_eqb}
-use Rattle.rules.proofs.Loops.{turns, range_begin, range_more}
+use Rattle.rules.proofs.Loops.{range_begin, range_more}
 use Rattle.rules.proofs.Lists.{filling_more, filling_ended}
 use Rattle.finder.specs.Doubling.{yy_step, lookup_at, yy_lookup}
 use Rattle.finder.proofs.Joined.{filled_first}
@@ -17,9 +17,6 @@ loop-i-init c =
       range_begin _ _ 1,
       filled_first (lookup_at a.x.now a.xx) a.lookup.now (omega arith) refl,
     )
-
-pub max-requires : goal.max-requires
-max-requires c = search turns
 
 pub loop-i-preserved : goal.loop-i-preserved
 loop-i-preserved c =

@@ -9,4 +9,4 @@ pub returns : goal.returns
 unfolding product_at
 returns c =
     let a = c.args in
-    inner_at a.x.now (384 - a.t) (omega arith) (omega arith) c.sum.ensures c.inner_prod.ensures
+    inner_at a.x.now (384 - a.t) (omega arith) (omega arith) c.unwrap.ensures c.inner_prod.ensures

@@ -1,18 +1,14 @@
 -- `finder::doubling::try_shorter` meets its contract. Assumes nothing.
-use Rattle.std.specs.Prelude.{◌+◌, ◌≤◌}
+use Rattle.std.specs.Prelude.{◌+◌}
 use native.Mathlib.Omega.{arith}
 use borrow.Author.Tests.{lt-ltb, le-ltb}
 use Rattle.rules.specs.Loop.{stop}
 use Rattle.rules.proofs.Loops.{turns, walk_more, walk_ended, walk_stop}
 use Rattle.finder.specs.Doubling.{shorter}
-use Rattle.finder.proofs.Ranges.{shortened_small}
 use Rattle.finder.proofs.doubling.try_shorter.Goals as goal
 
 pub loop-i-init : goal.loop-i-init
 loop-i-init c = search turns
-
-pub shorten-t1-requires : goal.shorten-t1-requires
-shorten-t1-requires c = search turns
 
 -- the turn that leaves the loop
 pub returns-then-t1-lt30 : goal.returns-then-t1-lt30
@@ -22,13 +18,6 @@ returns-then-t1-lt30 c =
     walk_stop _ _ (l.i + 1) 14 (omega arith)
     (walk_more _ _ _ {next = stop l.best} l.invariant.1
     (rw (lt-ltb _ _ (rw c.shorten-t1.ensures at c.if-t1-lt30.true))))
-
-pub consider-best-requires : goal.consider-best-requires
-consider-best-requires c =
-    let a = c.args.a in
-    let small : c.shorten-t1.result ≤ 383 =
-    rw c.shorten-t1.ensures (shortened_small a.t0 (c.loop-i.i + 2) (omega arith) (omega arith)) in
-    search (turns, small)
 
 pub loop-i-preserved : goal.loop-i-preserved
 loop-i-preserved c =

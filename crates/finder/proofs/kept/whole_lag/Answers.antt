@@ -7,10 +7,6 @@ pub loop-k-init : goal.loop-k-init
 unfolding whole_lag
 loop-k-init c = search turns
 
-pub nearer-lag-requires : goal.nearer-lag-requires
-unfolding whole_lag
-nearer-lag-requires c = search turns
-
 pub loop-k-preserved : goal.loop-k-preserved
 unfolding whole_lag
 loop-k-preserved c = search (turns, c.nearer-lag.ensures)

@@ -1,20 +1,15 @@
 -- `finder::search::correlations` meets its contract. Assumes nothing.
-use Rattle.rules.proofs.Lists.{fills}
+use native.Mathlib.Omega.{arith}
+use Rattle.rules.proofs.Lists.{filling_begin, filling_more, filling_ended}
 use Rattle.finder.specs.Search.{fine}
 use Rattle.finder.proofs.search.correlations.Goals as goal
 
 pub loop-i-init : goal.loop-i-init
-unfolding fine
-loop-i-init c = search fills
-
-pub correlate-requires : goal.correlate-requires
-unfolding fine
-correlate-requires c = search fills
+loop-i-init c = filling_begin _ _
 
 pub loop-i-preserved : goal.loop-i-preserved
-unfolding fine
-loop-i-preserved c = search (fills, c.correlate.ensures)
+loop-i-preserved c = filling_more _ _ _ c.loop-i.invariant (omega arith) c.correlate.ensures
 
 pub returns : goal.returns
 unfolding fine
-returns c = search fills
+returns c = filling_ended _ _ _ 294 (omega arith) (omega arith) (omega arith) c.loop-i.invariant

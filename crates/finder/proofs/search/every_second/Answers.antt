@@ -7,6 +7,3 @@ loop-j-init c = search fills
 
 pub loop-j-preserved : goal.loop-j-preserved
 loop-j-preserved c = search fills
-
-pub returns : goal.returns
-returns c = search fills

@@ -10,5 +10,5 @@ returns c =
     let a = c.args in
     rw (
       c.max.ensures,
-      inner_at a.buf.now a.i (omega arith) (omega arith) c.sum.ensures c.inner_prod.ensures,
+      inner_at a.buf.now a.i (omega arith) (omega arith) c.unwrap-product.ensures c.inner_prod.ensures,
     )

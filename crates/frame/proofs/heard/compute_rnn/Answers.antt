@@ -6,8 +6,22 @@ use Rattle.rules.proofs.Places.{length_get}
 use Rattle.network.specs.Compute.{Outcome}
 use Rattle.network.proofs.Callers.{computed_done}
 use Rattle.network.proofs.States.{fit_on}
+use Rattle.model.specs.Model.{read_of}
+use Rattle.frame.proofs.Answered.{model_in, computed_ok}
 use Rattle.frame.proofs.Spoken.{states, thought}
 use Rattle.frame.proofs.heard.compute_rnn.Goals as goal
+
+pub unwrap-requires : goal.unwrap-requires
+unfolding get
+unwrap-requires c =
+    let n = c.compute_on in
+    let a = c.args in
+    let share = a.share.now in
+    let lent = length_get states share (omega arith) in
+    let good = (model_in (read_of a.model.now) c.requires.reads).1 in
+    let done = n.ensures
+    ∙ sym (computed_done _ _ _ _ _ _ _ (fit_on (get states share) (omega arith) refl lent (omega arith)) good refl) in
+    computed_ok n.result (ap (λ (o : Outcome). o.answer) done)
 
 pub returns : goal.returns
 unfolding get put
@@ -15,9 +29,8 @@ returns c = λ m good.
     let n = c.compute_on in
     let a = c.args in
     let share = a.share.now in
-    let pre = c.requires in
-    let lent = length_get states share (omega (arith, pre.0)) in
+    let lent = length_get states share (omega arith) in
     let done = n.ensures
-    ∙ sym (computed_done _ _ _ _ _ _ _ (fit_on (get states share) pre.1 refl lent pre.2) good refl) in
-    thought share a.model.now m a.features.now n.new.states pre.0 (n.auto.states ∙ lent)
+    ∙ sym (computed_done _ _ _ _ _ _ _ (fit_on (get states share) (omega arith) refl lent (omega arith)) good refl) in
+    thought share a.model.now m a.features.now n.new.states (omega arith) (n.auto.states ∙ lent)
     (ap (λ (o : Outcome). o.layers) done)

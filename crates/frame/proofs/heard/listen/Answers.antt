@@ -1,39 +1,35 @@
 -- `frame::heard::listen` meets its contract. Assumes nothing.
-use Rattle.rules.proofs.Common.{sym, ◌∙◌}
+use Rattle.rules.proofs.Common.{◌≡◌, length, sym, ◌∙◌}
+use native.Mathlib.Omega.{arith}
 use Rattle.rules.specs.Place.{get}
 use Rattle.rules.proofs.Refusals.{left as fitted, fitting}
 use Rattle.frame.proofs.Sizes.{x_size, ex_size}
+use Rattle.frame.proofs.Answered.{same_ok}
 use Rattle.frame.proofs.Sounded.{is_silent_lem, is_heard_lem}
 use Rattle.frame.proofs.heard.listen.Goals as goal
 
-pub hear-voice-requires : goal.hear-voice-requires
+pub hear-voice-requires-clause-as_kept : goal.hear-voice-requires-clause-as_kept
 unfolding get
-hear-voice-requires c =
-    let pre = c.requires in (
-      pre.0,
-      fitted c.copy.ensures (pre.1 ∙ sym (x_size c.args.share.now pre.0)),
-      pre.2,
-      pre.3,
-      pre.4,
-    )
+hear-voice-requires-clause-as_kept c =
+    let size : length c.args.out.now ≡ 961 = omega arith in
+    fitted c.copy.ensures (size ∙ sym (x_size c.args.share.now (omega arith)))
 
-pub returns-then-is_quiet : goal.returns-then-is_quiet
+pub returns-in-None : goal.returns-in-None
 unfolding get
-returns-then-is_quiet c = λ m good.
+returns-in-None c = λ m good.
     let a = c.args in
     let share = a.share.now in
-    let x = fitted c.copy.ensures (c.requires.1 ∙ sym (x_size share c.requires.0)) in
-    let sound = fitting c.listen-sound.ensures (ex_size share c.requires.0) in
-    is_silent_lem share a.index a.spectrum.now a.logs.now a.model.now m a.out.now sound
-    (sym c.is_quiet.ensures ∙ c.if-is_quiet.true) x
+    let size : length a.out.now ≡ 961 = omega arith in
+    let x = fitted c.copy.ensures (size ∙ sym (x_size share (omega arith))) in
+    let sound = fitting c.listen.ensures (ex_size share (omega arith)) in
+    is_silent_lem share a.index a.spectrum.now a.logs.now a.model.now m a.out.now
+    (same_ok c.in-None.ensures sound) x
 
-pub returns : goal.returns
+pub returns-in-Some : goal.returns-in-Some
 unfolding get
-returns c = λ m good.
+returns-in-Some c = λ m good.
     let a = c.args in
     let share = a.share.now in
-    let sound = fitting c.listen-sound.ensures (ex_size share c.requires.0) in
-    let loud = sym c.is_quiet.ensures ∙ c.if-is_quiet.false in
-    rw c.reply_of.ensures
-    (is_heard_lem share a.index a.spectrum.now a.logs.now a.model.now m a.out.now sound loud
-    (c.hear-voice.ensures m good))
+    let sound = fitting c.listen.ensures (ex_size share (omega arith)) in
+    is_heard_lem share a.index a.spectrum.now a.logs.now a.model.now m a.out.now
+    (same_ok c.in-Some.ensures sound) (c.hear-voice.ensures m good)

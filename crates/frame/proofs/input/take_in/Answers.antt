@@ -10,8 +10,8 @@ use Rattle.rules.specs.Place.{get}
 use Rattle.rules.specs.Tab.{tab}
 use Rattle.rules.proofs.Refusals.{left as fitted, fitting}
 use Rattle.numbers.specs.Filter.{high_pass, outputs}
-use Rattle.numbers.specs.declared.filter.Filtered.{Filtered}
 use Rattle.bands.specs.Windowed.{windowed}
+use Rattle.frame.proofs.Answered.{unwrapped}
 use Rattle.frame.specs.Frame.{shifted}
 use Rattle.frame.proofs.input.take_in.Goals as goal
 
@@ -34,10 +34,10 @@ returns c =
     let part : length (take 480 (drop 1248 m)) ≡ length a.samples.now =
     simp (length-take, length-drop) (omega arith) in
     let mem = placed a.mem.now (outputs high_pass a.memory a.samples.now) m size c.shift.ensures
-    (fitted c.filter-done.ensures part) in
+    (fitted c.filter.ensures part) in
     let window = fitted c.apply_window.ensures
     (record { into = omega arith; from = simp (length-take, length-drop, length-append) (omega arith) }) in record {
-      value = ap (λ (x : Filtered × List Float). x.0.memory) (fitting c.filter-done.ensures part);
+      value = unwrapped c.unwrap-next.ensures (fitting c.filter.ensures part);
       mem_after = mem;
       window_after = window ∙ ap (λ (l : List Float). windowed (take 960 (drop 768 l))) mem;
     }

@@ -7,13 +7,13 @@ use Rattle.rules.proofs.Lists.{filling_more, filling_ahead, fills}
 use Rattle.frame.specs.Frame.{plus_hundredth}
 use Rattle.frame.proofs.lagged.lift.Goals as goal
 
-pub loop-i-init : goal.loop-i-init
-loop-i-init c = search fills
+pub loop-energy-init : goal.loop-energy-init
+loop-energy-init c = search fills
 
-pub loop-i-preserved : goal.loop-i-preserved
-loop-i-preserved c =
-    let l = c.loop-i in
-    let ahead = filling_ahead _ _ _ l.i _ l.invariant.1 (omega arith) in
+pub loop-energy-preserved : goal.loop-energy-preserved
+loop-energy-preserved c =
+    let l = c.loop-energy in
+    let ahead = filling_ahead _ _ _ l.energy-index _ l.invariant.1 (omega arith) in
     (omega arith, filling_more _ _ _ l.invariant.1 (omega arith) (ap (λ (x : Float). f32 0x3C23D70A ⊕ x) ahead))
 
 pub returns : goal.returns

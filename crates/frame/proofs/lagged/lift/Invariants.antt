@@ -5,8 +5,9 @@ use Rattle.rules.specs.F32.{◌⊕◌, at, f32}
 use Rattle.rules.proofs.Lists.{Filling}
 use Rattle.frame.proofs.lagged.lift.Given as goal
 
-abbrev pub invariant-loop-i : goal.invariant-loop-i
-invariant-loop-i l = (l.i ≤ 22) × Filling (λ k. f32 0x3C23D70A ⊕ at l.initial.ex k) l.initial.ex l.i l.ex
+abbrev pub invariant-loop-energy : goal.invariant-loop-energy
+invariant-loop-energy l = (l.energy-index ≤ 22)
+    × Filling (λ k. f32 0x3C23D70A ⊕ at l.initial.ex k) l.initial.ex l.energy-index l.ex
 
-abbrev pub decreases-loop-i : goal.decreases-loop-i
-decreases-loop-i l = 22 - l.i
+abbrev pub decreases-loop-energy : goal.decreases-loop-energy
+decreases-loop-energy l = 22 - l.energy-index

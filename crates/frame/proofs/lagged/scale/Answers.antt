@@ -1,7 +1,7 @@
 -- `frame::lagged::scale` meets its contract. The loop's invariant: the first i places are scaled, and the others are as
 -- they were. Assumes nothing.
 use native.Mathlib.Omega.{arith}
-use Rattle.rules.proofs.Lists.{filling_more, fills}
+use Rattle.rules.proofs.Lists.{filling_more, filling_ended, fills}
 use Rattle.frame.specs.Heard.{scaled}
 use Rattle.frame.proofs.lagged.scale.Goals as goal
 
@@ -15,4 +15,6 @@ loop-i-preserved c =
 
 pub returns : goal.returns
 unfolding scaled
-returns c = search fills
+returns c =
+    let l = c.loop-i in
+    filling_ended _ _ l.i 961 (omega arith) (omega arith) (omega arith) l.invariant.1

@@ -5,7 +5,7 @@ use Rattle.std.specs.Prelude.{◌+◌, ◌<◌, ◌≡◌}
 use Rattle.rules.proofs.Common.{ℕ, List, ap, ◌∙◌, Float, nan}
 use native.Mathlib.Omega.{arith}
 use Rattle.rules.specs.F32.{◌⊕◌, ◌⊗◌, ◌⊘◌, at, f32}
-use Rattle.rules.proofs.Lists.{filling_more, filling_ahead, fills, get_d_tab}
+use Rattle.rules.proofs.Lists.{filling_more, filling_ended, filling_ahead, fills, get_d_tab}
 use Rattle.bands.specs.Window.{window}
 use Rattle.bands.specs.Windowed.{windowed_by}
 use Rattle.frame.specs.Frame.{window_buf, overlapped, later_half}
@@ -36,4 +36,9 @@ loop-i-preserved c =
 
 pub returns : goal.returns
 unfolding overlapped later_half
-returns c = search fills
+returns c =
+    let l = c.loop-i in
+    record {
+      kept_after = filling_ended _ _ l.i 480 (omega arith) (omega arith) (omega arith) l.invariant.1;
+      out_after = filling_ended _ _ l.i 480 (omega arith) (omega arith) (omega arith) l.invariant.2;
+    }

@@ -2,18 +2,11 @@
 -- found. Assumes nothing.
 use native.Mathlib.Omega.{arith}
 use Rattle.rules.specs.Place.{get}
-use Rattle.rules.proofs.Tests.{tests}
-use Rattle.frame.specs.Frame.{call2}
-use Rattle.halves.specs.Own.{call2_own}
 use Rattle.halves.proofs.Sister.{found, worked}
 use Rattle.halves.proofs.own.call2_own.Goals as goal
-
-pub returns-then-share-ne-PART : goal.returns-then-share-ne-PART
-unfolding call2_own call2
-returns-then-share-ne-PART c = search tests
 
 pub returns : goal.returns
 unfolding get
 returns c =
     let a = c.args in
-    worked _ _ _ _ (found a.share.now (omega arith) c.lag_of-found.ensures c.lag.ensures) c.call2.ensures
+    worked _ _ _ _ (found a.share.now (omega arith) c.lag_of.ensures c.unwrap-lag.ensures) c.call2.ensures

@@ -11,7 +11,7 @@ unfolding lag_by remembered get
 returns-in-Own c =
     let a = c.args in
     rw c.in-Own.is (record {
-      lag_told = found a.share.now (omega arith) c.lag_of.ensures c.lag.ensures;
+      lag_told = found a.share.now (omega arith) c.lag_of.ensures c.unwrap.ensures;
       share_after = refl;
     })
 

@@ -5,9 +5,6 @@ use Rattle.matrix.proofs.sums.add_column.Goals as goal
 pub loop-j-init : goal.loop-j-init
 loop-j-init c = search turns
 
-pub weight-requires : goal.weight-requires
-weight-requires c = search turns
-
 pub loop-j-preserved : goal.loop-j-preserved
 loop-j-preserved c = search (turns, c.weight.ensures)
 

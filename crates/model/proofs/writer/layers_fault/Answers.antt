@@ -1,50 +1,33 @@
 -- The loop's invariant: the layers still to come decide. Assumes nothing.
 use Rattle.std.specs.Prelude.{◌≡◌}
-use Rattle.rules.proofs.Common.{sym, ◌∙◌}
+use Rattle.rules.proofs.Common.{sym, refl, ◌∙◌}
 use native.Mathlib.Omega.{arith}
 use borrow.Author.Rules.{rules}
-use Rattle.model.proofs.Given.{stopped, on, fault_small, none_behind}
+use Rattle.model.proofs.Given.{stopped, on, none_behind}
+use Rattle.model.proofs.Numbers.{number_in_range}
 use Rattle.model.proofs.writer.layers_fault.Goals as goal
 
-pub overflow_add-result : goal.overflow_add-result
-overflow_add-result c =
+pub returns-in-Err : goal.returns-in-Err
+returns-in-Err c =
     let e = rw (
       c.kinds_in_row-kinds.ensures,
-      c.wide.ensures,
-      c.wide-in-loop-layer.ensures,
-      c.wide-in-loop-layer-2.ensures,
+      c.in-Err.is,
     ) at
-    c.layer_fault-fault.ensures in
-    omega (
-      arith,
-      fault_small c.args.shapes.now c.args.lengths c.requires (search rules) c.loop-layer.layer
-          (omega arith) e,
-    )
-
-pub returns-then-fault-ne0 : goal.returns-then-fault-ne0
-returns-then-fault-ne0 c =
-    let e = rw (
-      c.kinds_in_row-kinds.ensures,
-      c.wide.ensures,
-      c.wide-in-loop-layer.ensures,
-      c.wide-in-loop-layer-2.ensures,
-    ) at
-    c.layer_fault-fault.ensures in
+    c.layer_fault-fits.ensures in
+    let some = number_in_range c.in-Err.refusal in
     stopped c.args.shapes.now c.args.lengths c.requires (search rules) c.loop-layer.layer (omega arith) e
-    c.if-fault-ne0.true ∙ sym c.loop-layer.invariant.1
+    (λ z. omega (arith, some.0)) ∙ sym c.loop-layer.invariant.1
 
 pub loop-layer-preserved : goal.loop-layer-preserved
 loop-layer-preserved c =
     let e = rw (
       c.kinds_in_row-kinds.ensures,
-      c.wide.ensures,
-      c.wide-in-loop-layer.ensures,
-      c.wide-in-loop-layer-2.ensures,
+      c.in_default.is,
     ) at
-    c.layer_fault-fault.ensures in (
+    c.layer_fault-fits.ensures in (
       omega arith,
       c.loop-layer.invariant.1 ∙ on c.args.shapes.now c.args.lengths c.requires (search rules) c.loop-layer.layer
-          (omega arith) e c.if-fault-ne0.false,
+          (omega arith) e refl,
     )
 
 pub returns : goal.returns

@@ -1,17 +1,20 @@
 -- A refusal, or both halves of the file. Assumes nothing.
 use native.Mathlib.Omega.{arith}
+use Rattle.rules.proofs.Common.{refl}
+use borrow.Author.Rules.{rules}
 use borrow.Author.Tests.{ne_eqb}
 use Rattle.model.specs.Writer.{write_model}
 use Rattle.model.proofs.Over.{front, behind, both}
 use Rattle.model.proofs.Accepted.{Arrays, head, tail, bytes_so, fits_so, refused_so, written_so}
+use Rattle.model.proofs.Numbers.{misread_some}
 use Rattle.model.proofs.writer.write.Goals as goal
 
 pub returns-then-shapes-ne18 : goal.returns-then-shapes-ne18
 unfolding write_model
 returns-then-shapes-ne18 c = rw (ne_eqb _ 18 c.if-shapes-ne18.true)
 
-pub returns-then-fault-ne0 : goal.returns-then-fault-ne0
-returns-then-fault-ne0 c =
+pub returns-in_err-fault_of : goal.returns-in_err-fault_of
+returns-in_err-fault_of c =
     let a = c.args in
     let x : Arrays = record {
       w0 = a.w0.now;
@@ -31,7 +34,9 @@ returns-then-fault-ne0 c =
       b5 = a.b5.now;
     } in
     let s = a.shapes.now in
-    refused_so s x a.out.now c.if-shapes-ne18.false c.fault_of-fault.ensures c.if-fault-ne0.true
+    let due = refused_so s x a.out.now c.if-shapes-ne18.false c.in_err-fault_of.ensures
+    (misread_some c.in_err-fault_of.field-0.0) in
+    rw (← due) (search rules)
 
 pub put_three-at-requires : goal.put_three-at-requires
 put_three-at-requires c =
@@ -55,9 +60,9 @@ put_three-at-requires c =
     } in
     let s = a.shapes.now in
     let bytes =
-    bytes_so s x a.out.now c.if-shapes-ne18.false c.fault_of-fault.ensures c.if-fault-ne0.false in
+    bytes_so s x a.out.now c.if-shapes-ne18.false c.in_ok-fault_of.ensures refl in
     let fits =
-    fits_so s x a.out.now c.if-shapes-ne18.false c.fault_of-fault.ensures c.if-fault-ne0.false in
+    fits_so s x a.out.now c.if-shapes-ne18.false c.in_ok-fault_of.ensures refl in
     (omega arith, bytes, front 0 (head s x) (tail s x) _ fits)
 
 pub put_three-requires : goal.put_three-requires
@@ -81,10 +86,10 @@ put_three-requires c =
       b5 = a.b5.now;
     } in
     let s = a.shapes.now in
-    let bytes = bytes_so s x a.out.now c.if-shapes-ne18.false c.fault_of-fault.ensures
-    c.if-fault-ne0.false in
-    let fits = fits_so s x a.out.now c.if-shapes-ne18.false c.fault_of-fault.ensures
-    c.if-fault-ne0.false in
+    let bytes = bytes_so s x a.out.now c.if-shapes-ne18.false c.in_ok-fault_of.ensures
+    refl in
+    let fits = fits_so s x a.out.now c.if-shapes-ne18.false c.in_ok-fault_of.ensures
+    refl in
     (omega arith, bytes, behind c.put_three-at.ensures (tail s x) fits)
 
 pub returns : goal.returns
@@ -108,9 +113,9 @@ returns c =
       b5 = a.b5.now;
     } in
     let s = a.shapes.now in
-    let fits = fits_so s x a.out.now c.if-shapes-ne18.false c.fault_of-fault.ensures
-    c.if-fault-ne0.false in
-    written_so s x a.out.now c.if-shapes-ne18.false c.fault_of-fault.ensures
-    c.if-fault-ne0.false
+    let fits = fits_so s x a.out.now c.if-shapes-ne18.false c.in_ok-fault_of.ensures
+    refl in
+    written_so s x a.out.now c.if-shapes-ne18.false c.in_ok-fault_of.ensures
+    refl
     (both c.put_three-at.ensures (tail s x) fits
     c.put_three.ensures)

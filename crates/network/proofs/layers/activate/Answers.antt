@@ -8,13 +8,13 @@ use Rattle.network.proofs.layers.activate.Goals as goal
 
 pub returns-in-Tanh : goal.returns-in-Tanh
 returns-in-Tanh c =
-    activated_by Tanh (tansig_in c.args.table.now) c.args.sums.now c.in-Tanh.is
-    (λ x. ap (λ (t : List Float). tansig_in t x) c.requires) c.scale.ensures c.tansigs.ensures
+    activated_by Tanh (tansig_in c.args.table.now.entries) c.args.sums.now c.in-Tanh.is
+    (λ x. ap (λ (t : List Float). tansig_in t x) c.args.table.now.filled) c.scale.ensures c.tansigs.ensures
 
 pub returns-in-Sigmoid : goal.returns-in-Sigmoid
 returns-in-Sigmoid c =
-    activated_by Sigmoid (sigmoid_in c.args.table.now) c.args.sums.now c.in-Sigmoid.is
-    (λ x. ap (λ (t : List Float). sigmoid_in t x) c.requires) c.scale.ensures c.sigmoids.ensures
+    activated_by Sigmoid (sigmoid_in c.args.table.now.entries) c.args.sums.now c.in-Sigmoid.is
+    (λ x. ap (λ (t : List Float). sigmoid_in t x) c.args.table.now.filled) c.scale.ensures c.sigmoids.ensures
 
 pub returns-in-Relu : goal.returns-in-Relu
 returns-in-Relu c =

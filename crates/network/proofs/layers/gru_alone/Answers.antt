@@ -3,4 +3,4 @@ use borrow.Author.Rules.{rules}
 use Rattle.network.proofs.layers.gru_alone.Goals as goal
 
 pub gru-requires : goal.gru-requires
-gru-requires c = record { arrays = c.requires.2; lent = (c.requires.0, search rules) }
+gru-requires c = record { arrays = c.requires.1; lent = search rules }

@@ -4,5 +4,5 @@ use Rattle.network.proofs.layers.update.Goals as goal
 
 pub returns : goal.returns
 returns c =
-    updated c.args.table.now c.args.gates.now c.requires c.scale.ensures
+    updated c.args.table.now.entries c.args.gates.now c.args.table.now.filled c.scale.ensures
     c.sigmoids.ensures

@@ -17,9 +17,9 @@ returns c =
     let h = a.m.denoise_gru in
     let n = a.m.vad_gru.neurons in
     let k = a.m.noise_gru.neurons in
-    let fit = c.requires.2 in
-    let long = cut_length s 0 n n (omega arith) (omega (arith, c.requires.1, fit.within.inputs, fit.inputs)) in
-    let long' = cut_length s 128 (128 + k) k refl (omega (arith, c.requires.1, fit.within.inputs, fit.inputs)) in
+    let fit = c.requires.1 in
+    let long = cut_length s 0 n n (omega arith) (omega (arith, c.requires.0, fit.within.inputs, fit.inputs)) in
+    let long' = cut_length s 128 (128 + k) k refl (omega (arith, c.requires.0, fit.within.inputs, fit.inputs)) in
     c.gru.ensures
     ∙ ap (λ (i : List Float). put (state_at 256 h) s (gru_at a.bytes.now h i (get (state_at 256 h) s)))
     (as_inputs (part 0 n s) (part 128 (128 + k) s) a.features.now c.join.new.buf (h.inputs - 0)

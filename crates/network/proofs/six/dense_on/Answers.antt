@@ -6,8 +6,8 @@ use Rattle.network.proofs.six.dense_on.Goals as goal
 
 pub dense-requires : goal.dense-requires
 dense-requires c =
-    let long = cut_length c.args.states.now c.args.at _ c.args.n refl c.requires.1 in
-    (c.requires.0, rw long c.requires.2)
+    let long = cut_length c.args.states.now c.args.at _ c.args.n refl c.requires.0 in
+    rw long c.requires.1
 
 pub returns : goal.returns
 returns c =

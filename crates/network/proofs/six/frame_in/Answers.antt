@@ -7,12 +7,11 @@ use Rattle.network.proofs.six.frame_in.Goals as goal
 pub voice_of-requires : goal.voice_of-requires
 voice_of-requires c =
     let p = c.requires in
-    (c.all-table.ensures, p.4, voice_fits _ _ p.0 p.1 p.3 p.5)
+    (p.4, voice_fits _ _ p.0 p.1 p.3 p.5)
 
 pub noise_of-requires : goal.noise_of-requires
 noise_of-requires c =
     let p = c.requires in (
-      c.all-table.ensures,
       c.voice_of.auto.states ∙ p.4,
       noise_fits _ _ p.0 (c.voice_of.auto.hidden ∙ p.1) p.5,
     )
@@ -20,7 +19,6 @@ noise_of-requires c =
 pub gains_of-requires : goal.gains_of-requires
 gains_of-requires c =
     let p = c.requires in (
-      c.all-table.ensures,
       c.noise_of.auto.states ∙ c.voice_of.auto.states ∙ p.4,
       gains_fit _ _ p.0 p.2 p.5,
     )

@@ -16,8 +16,8 @@ returns c =
     let s = a.states.now in
     let h = a.m.noise_gru in
     let n = a.m.vad_gru.neurons in
-    let fit = c.requires.2 in
-    let long = cut_length s 0 n n (omega arith) (omega (arith, c.requires.1, fit.within.inputs, fit.inputs)) in
+    let fit = c.requires.1 in
+    let long = cut_length s 0 n n (omega arith) (omega (arith, c.requires.0, fit.within.inputs, fit.inputs)) in
     c.gru.ensures
     ∙ ap (λ (i : List Float). put (state_at 128 h) s (gru_at a.bytes.now h i (get (state_at 128 h) s)))
     (as_inputs a.hidden.now (part 0 n s) a.features.now c.join.new.buf (h.inputs - 0) refl

@@ -1,7 +1,7 @@
 -- `pcm::bytes::pack_core` meets its contract: the first two places of each sample so far hold its bytes.
 -- Assumes nothing.
 use Rattle.std.specs.Prelude.{◌+◌, ◌*◌, ◌/◌, ◌%◌, ◌<◌, ◌≡◌}
-use Rattle.rules.proofs.Common.{ℕ, List, subst, ◌∙◌, length, set, length-set}
+use Rattle.rules.proofs.Common.{ℕ, List, subst, ap, ◌∙◌, length, set, get_or}
 use Rattle.rules.proofs.Common.{Float}
 use Rattle.std.proofs.Common.{arith}
 use Rattle.rules.specs.F32.{at}
@@ -31,31 +31,18 @@ sample_more samples out₀ i {out} {n} {b} {c} f e low high l h =
 pub loop-i-init : goal.loop-i-init
 loop-i-init c = search (fills, c.requires.size)
 
-pub nearest-n-requires : goal.nearest-n-requires
-nearest-n-requires c = search fills
-
-pub byte_of-requires : goal.byte_of-requires
-byte_of-requires c = search fills
-
-pub bounds-out-i : goal.bounds-out-i
-bounds-out-i c = let l = c.loop-i in omega (arith, l.invariant.3.same)
-
-pub byte_of-requires-in-loop-i : goal.byte_of-requires-in-loop-i
-byte_of-requires-in-loop-i c = search fills
-
-pub bounds-out-i-in-loop-i : goal.bounds-out-i-in-loop-i
-bounds-out-i-in-loop-i c =
-    let l = c.loop-i in
-    simp length-set (omega (arith, l.invariant.3.same))
-
 pub loop-i-preserved : goal.loop-i-preserved
 loop-i-preserved c =
     let l = c.loop-i in
-    let samples = c.args.samples.now in (
+    let samples = c.args.samples.now in
+    let n = c.nearest.result in
+    let high : n / 256 % 256 ≡ n / 256 = omega (arith, c.nearest.type_inv) in (
       omega arith,
       l.invariant.1,
       l.invariant.2,
-      sample_more samples _ _ l.invariant.3 c.nearest-n.ensures.0 c.byte_of.ensures c.byte_of-in-loop-i.ensures
+      sample_more samples _ _ l.invariant.3 c.nearest.ensures
+          (ap (λ (b : List ℕ). get_or b 0 0) c.to_le_bytes.ensures)
+          (ap (λ (b : List ℕ). get_or b 1 0) c.to_le_bytes.ensures ∙ high)
           l.invariant.2 (omega arith),
     )
 

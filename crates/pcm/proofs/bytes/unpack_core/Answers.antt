@@ -2,16 +2,13 @@
 -- Assumes nothing.
 use Rattle.rules.proofs.Common.{refl, ◌∙◌}
 use Rattle.std.proofs.Common.{arith}
-use Rattle.rules.proofs.Lists.{fills, filling_begin, filling_more, filling_ended}
+use Rattle.rules.proofs.Lists.{filling_begin, filling_more, filling_ended}
 use Rattle.pcm.specs.Pcm.{unpacked}
 use Rattle.pcm.proofs.Patterns.{room}
 use Rattle.pcm.proofs.bytes.unpack_core.Goals as goal
 
-pub width_of-width-requires : goal.width_of-width-requires
-width_of-width-requires c = search fills
-
 pub loop-i-init : goal.loop-i-init
-loop-i-init c = (omega arith, refl, c.requires, c.width_of-width.ensures, filling_begin _ _)
+loop-i-init c = (omega arith, refl, c.requires, c.width-width.ensures.0, filling_begin _ _)
 
 pub overflow_mul-i : goal.overflow_mul-i
 overflow_mul-i c =
@@ -30,10 +27,8 @@ overflow_mul-i-in-loop-i c =
 
 pub number_at-requires : goal.number_at-requires
 number_at-requires c =
-    let l = c.loop-i in (
-      l.invariant.2.known,
-      omega (arith, l.invariant.3, room _ _ _ _ _ _ l.invariant.2 l.invariant.3 l.i (omega arith)),
-    )
+    let l = c.loop-i in
+    omega (arith, l.invariant.3, room _ _ _ _ _ _ l.invariant.2 l.invariant.3 l.i (omega arith))
 
 pub loop-i-preserved : goal.loop-i-preserved
 loop-i-preserved c =

@@ -6,7 +6,7 @@ use Rattle.pcm.proofs.Rounding.{of_nan, negative, others}
 use Rattle.pcm.proofs.nearest.nearest.Goals as goal
 
 pub returns-then-x : goal.returns-then-x
-returns-then-x c = (of_nan c.args.x c.if-x.true, omega arith)
+returns-then-x c = of_nan c.args.x c.if-x.true
 
 pub up_to-requires : goal.up_to-requires
 up_to-requires c = ((negative c.args.x c.if-x-2.true).0, omega arith)
@@ -14,7 +14,7 @@ up_to-requires c = ((negative c.args.x c.if-x-2.true).0, omega arith)
 pub returns-then-x-2 : goal.returns-then-x-2
 returns-then-x-2 c =
     let n = negative c.args.x c.if-x-2.true in
-    (ap (λ (r : ℕ). (65536 - r) % 65536) c.up_to.ensures.0 ∙ sym n.1, omega arith)
+    ap (λ (r : ℕ). (65536 - r) % 65536) c.up_to.ensures.0 ∙ sym n.1
 
 pub up_to-requires-2 : goal.up_to-requires-2
 up_to-requires-2 c = (
@@ -25,4 +25,4 @@ up_to-requires-2 c = (
 pub returns : goal.returns
 returns c =
     let n = others c.args.x c.if-x.false c.if-x-2.false in
-    (c.up_to-2.ensures.0 ∙ sym n.1, omega (arith, c.up_to-2.ensures.1))
+    c.up_to-2.ensures.0 ∙ sym n.1

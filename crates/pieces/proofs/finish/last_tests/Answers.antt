@@ -1,24 +1,14 @@
 -- `pieces::finish::last_tests` meets its contract. Assumes nothing.
-use Rattle.rules.proofs.Common.{sym, ◌∙◌}
+use Rattle.frame.proofs.Answered.{tested_on, refused_lem}
 use Rattle.pieces.proofs.finish.last_tests.Goals as goal
 
-pub returns-then-not-passed : goal.returns-then-not-passed
-returns-then-not-passed c =
-    let k = c.check-reply.ensures in
-    rw (← k, sym c.passed.ensures ∙ c.if-not-passed.true)
+pub returns-in_err-check : goal.returns-in_err-check
+returns-in_err-check c =
+    let e = c.in_err-check in
+    rw (tested_on _ _ c.from_residual.ensures.1, ← e.ensures, refused_lem e.field-0.0)
 
 pub returns-then-not-fine : goal.returns-then-not-fine
-returns-then-not-fine c =
-    rw (
-      ← c.check-reply.ensures,
-      sym c.passed.ensures ∙ c.if-not-passed.false,
-      c.if-not-fine.true,
-    )
+returns-then-not-fine c = rw (← c.in_ok-check.ensures, c.if-not-fine.true)
 
 pub returns : goal.returns
-returns c =
-    rw (
-      ← c.check-reply.ensures,
-      sym c.passed.ensures ∙ c.if-not-passed.false,
-      c.if-not-fine.false,
-    )
+returns c = rw (← c.in_ok-check.ensures, c.if-not-fine.false)

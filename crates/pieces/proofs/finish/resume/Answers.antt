@@ -1,11 +1,11 @@
 -- `pieces::finish::resume` meets its contract: the tests turn it away, or what its parts leave makes it what the
 -- definition says. Assumes nothing.
 use Rattle.std.specs.Prelude.{◌≡◌}
-use Rattle.rules.proofs.Common.{ℕ, true, List, sym, ◌∙◌, Float}
+use Rattle.rules.proofs.Common.{ℕ, true, List, refl, Float}
 use native.Mathlib.Omega.{arith}
 use Rattle.frame.specs.declared.Hearing.{Hearing}
-use Rattle.frame.specs.declared.Reply.{Reply}
-use Rattle.frame.specs.Reply.{passed}
+use Rattle.frame.specs.Reply.{Reply, passed}
+use Rattle.frame.proofs.Answered.{passed_on, refused_lem}
 use Rattle.pieces.specs.Private.{resume_reply}
 use Rattle.pieces.proofs.Accepted.{Resume, resume_accepted, within_samples, frame_fits}
 use Rattle.pieces.proofs.Serve.{finished_length, resume_refused, resume_goes}
@@ -20,35 +20,37 @@ got share hearing noted progress samples logs model out sums e z =
 
 -- ---- the two ways to end
 
-pub returns-then-not-passed : goal.returns-then-not-passed
-returns-then-not-passed c =
+pub returns-in_err-resume_tests : goal.returns-in_err-resume_tests
+returns-in_err-resume_tests c =
     let a = c.args in
-    resume_refused a.share.now a.hearing a.piece a.progress a.samples.now a.logs.now a.model.now a.out.now a.sums.now _
-    c.resume_reply-reply.ensures (sym c.passed.ensures ∙ c.if-not-passed.true)
+    let e = c.in_err-resume_tests in
+    rw (passed_on _ _ c.from_residual.ensures.1)
+    (resume_refused a.share.now a.hearing a.piece a.progress a.samples.now a.logs.now a.model.now a.out.now a.sums.now _
+    e.ensures (refused_lem e.field-0.0))
 
 pub returns : goal.returns
 returns c =
     let a = c.args in
     let told = c.leave-told.ensures in
     resume_goes a.share.now a.hearing a.piece a.progress a.samples.now a.logs.now a.model.now a.out.now a.sums.now _
-    c.resume_reply-reply.ensures (sym c.passed.ensures ∙ c.if-not-passed.false)
+    c.in_ok-resume_tests.ensures refl
     (told.told, (told.share_after, told.out_after)) c.go_on.ensures
 
 -- ---- what the parts ask for
 
 pub overflow_add-start : goal.overflow_add-start
 overflow_add-start c =
-    let k = got _ _ _ _ _ _ _ _ _ c.resume_reply-reply.ensures (sym c.passed.ensures ∙ c.if-not-passed.false) in
+    let k = got _ _ _ _ _ _ _ _ _ c.in_ok-resume_tests.ensures refl in
     omega (arith, k.within, k.few)
 
 pub overflow_sub-start : goal.overflow_sub-start
 overflow_sub-start c =
-    let k = got _ _ _ _ _ _ _ _ _ c.resume_reply-reply.ensures (sym c.passed.ensures ∙ c.if-not-passed.false) in
+    let k = got _ _ _ _ _ _ _ _ _ c.in_ok-resume_tests.ensures refl in
     omega (arith, k.begun)
 
 pub leave-told-requires : goal.leave-told-requires
 leave-told-requires c =
-    let k = got _ _ _ _ _ _ _ _ _ c.resume_reply-reply.ensures (sym c.passed.ensures ∙ c.if-not-passed.false) in
+    let k = got _ _ _ _ _ _ _ _ _ c.in_ok-resume_tests.ensures refl in
     record {
       sizes = (k.size, k.inside, k.taken, frame_fits _ _ _ _ _ _ _ _ _ k);
       model_passes = k.right;
@@ -57,7 +59,7 @@ leave-told-requires c =
 pub go_on-requires : goal.go_on-requires
 go_on-requires c =
     let a = c.args in
-    let k = got _ _ _ _ _ _ _ _ _ c.resume_reply-reply.ensures (sym c.passed.ensures ∙ c.if-not-passed.false) in (
+    let k = got _ _ _ _ _ _ _ _ _ c.in_ok-resume_tests.ensures refl in (
       finished_length a.share.now k.size a.hearing a.logs.now a.model.now c.leave-told.ensures.share_after,
       within_samples _ _ _ _ _ _ _ _ _ k,
       k.fine,

@@ -5,13 +5,13 @@ pub returns : goal.returns
 unfolding judge_in
 returns c =
     rw (
-      c.word-6.ensures,
-      c.word-7.ensures,
-      c.copied.ensures,
-      c.front_in-front.ensures,
       c.word.ensures,
       c.word-2.ensures,
       c.word-3.ensures,
       c.word-4.ensures,
       c.word-5.ensures,
+      c.word-6.ensures,
+      c.word-7.ensures,
+      c.word-8.ensures,
+      c.side_at.ensures,
     )

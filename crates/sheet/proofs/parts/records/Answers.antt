@@ -2,16 +2,21 @@ use Rattle.rules.proofs.Common.{sym, ◌∙◌, length-take}
 use native.Mathlib.Omega.{arith}
 use Rattle.sheet.proofs.Runs.{all_heard}
 use Rattle.sheet.proofs.InRow.{rows_5, rows_32, rows_33, rows_34, rows_36, rows_laid}
+use Rattle.sheet.proofs.parts.records.Goals.{then-more-gt536870911-via-then-more-gt536870911}
+use Rattle.sheet.proofs.parts.records.Goals.{then-more-gt536870911-via-else-more-gt536870911+then-more-before}
 use Rattle.sheet.proofs.parts.records.Goals as goal
 
 pub returns-then-numbers-ne2 : goal.returns-then-numbers-ne2
 returns-then-numbers-ne2 c = rows_5 _ _ _ _ c.if-numbers-ne2.true
 
 pub returns-then-more-gt536870911 : goal.returns-then-more-gt536870911
-returns-then-more-gt536870911 c = rows_32 _ _ _ _ c.if-numbers-ne2.false (omega arith)
-
-pub returns-then-more-before : goal.returns-then-more-before
-returns-then-more-before c = rows_32 _ _ _ _ c.if-numbers-ne2.false (omega arith)
+returns-then-more-gt536870911 c =
+    rows_32 _ _ _ _ c.if-numbers-ne2.false
+    (elim c.then-more-gt536870911.branch [
+      | then-more-gt536870911-via-then-more-gt536870911 w ↦ omega (arith, w.if-more-gt536870911.true)
+      | then-more-gt536870911-via-else-more-gt536870911+then-more-before w ↦
+          omega (arith, w.if-more-gt536870911.false, w.if-more-before.true)
+    ])
 
 pub returns-then-side-gt1 : goal.returns-then-side-gt1
 returns-then-side-gt1 c = rows_33 _ _ _ _ c.if-numbers-ne2.false (omega arith) c.if-side-gt1.true

@@ -18,11 +18,11 @@ pub returns-then-out-lt16 : goal.returns-then-out-lt16
 unfolding trailer_laid
 returns-then-out-lt16 c = search tests
 
-pub slice_bounds-copy-end-2 : goal.slice_bounds-copy-end-2
-slice_bounds-copy-end-2 c = simp length-take (omega (arith, c.if-out-lt16.false))
+pub slice_bounds-copy_from_slice-end-2 : goal.slice_bounds-copy_from_slice-end-2
+slice_bounds-copy_from_slice-end-2 c = simp length-take (omega (arith, c.if-out-lt16.false))
 
-pub copy-requires : goal.copy-requires
-copy-requires c =
+pub copy_from_slice-requires : goal.copy_from_slice-requires
+copy_from_slice-requires c =
     let size = ap length c.trailer_of-bytes.ensures ∙ length_trailer _ _ _ in
     simp length-take (omega (arith, c.if-out-lt16.false))
 
@@ -33,6 +33,6 @@ returns c =
       le-ltb _ _ c.if-count-gt536870911.false,
       le-ltb 1 _ c.if-side-gt1.false,
       le-ltb _ 16 c.if-out-lt16.false,
-      c.copy.ensures,
+      c.copy_from_slice.ensures.after,
       c.trailer_of-bytes.ensures,
     )

@@ -1,5 +1,5 @@
 -- `transforms::samples::spread` meets its contract. Assumes nothing.
-use Rattle.std.specs.Prelude.{◌-◌, ◌≤◌, ◌≡◌}
+use Rattle.std.specs.Prelude.{◌≡◌}
 use Rattle.rules.proofs.Common.{List, length, Float}
 use Rattle.rules.proofs.Lists.{Filling}
 use Rattle.transforms.specs.Transform.{sample}
@@ -7,8 +7,5 @@ use Rattle.transforms.specs.Private.{Keeps, whole_part}
 use Rattle.transforms.proofs.samples.spread.Given as goal
 
 abbrev pub invariant-loop-n : goal.invariant-loop-n
-invariant-loop-n l = (l.n ≤ 960) × (length l.initial.out ≡ 960) × (length l.out ≡ 960)
+invariant-loop-n l = (length l.initial.out ≡ 960)
     × ((x : List Float) → Keeps (whole_part x) 992 l.parts → Filling (λ i. sample x i) l.initial.out l.n l.out)
-
-abbrev pub decreases-loop-n : goal.decreases-loop-n
-decreases-loop-n l = 960 - l.n

@@ -1,32 +1,6 @@
-use Rattle.std.specs.Prelude.{◌+◌}
-use Rattle.rules.proofs.Common.{sym}
 use native.Mathlib.Omega.{arith}
 use Rattle.wav.proofs.Fields.{two_at}
 use Rattle.wav.proofs.bytes.two_at.Goals as goal
 
-pub overflow_cast-result : goal.overflow_cast-result
-overflow_cast-result c = omega (arith, c.shared_slice_known-1.given c.args.at)
-
-pub overflow_cast-result-2 : goal.overflow_cast-result-2
-overflow_cast-result-2 c = omega (arith, c.shared_slice_known-2-1.given (c.args.at + 1))
-
-pub overflow_mul-result : goal.overflow_mul-result
-overflow_mul-result c = omega (arith, c.shared_slice_known-2-1.given (c.args.at + 1))
-
-pub overflow_add-result-2 : goal.overflow_add-result-2
-overflow_add-result-2 c =
-    omega (
-      arith,
-      c.shared_slice_known-2-1.given c.args.at,
-      c.shared_slice_known-2-1.given (c.args.at + 1),
-    )
-
 pub returns : goal.returns
-returns c = (
-  sym (two_at c.args.bytes.now c.args.at),
-  omega (
-    arith,
-    c.shared_slice_known-2-1.given c.args.at,
-    c.shared_slice_known-2-1.given (c.args.at + 1),
-  ),
-)
+returns c = (omega (arith, c.from_le_bytes.ensures, two_at c.args.bytes.now c.args.at), omega arith)

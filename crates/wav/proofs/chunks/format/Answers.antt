@@ -4,23 +4,23 @@ use Rattle.wav.proofs.Fields.{block_fits}
 use Rattle.wav.proofs.Steps.{format_42, format_44, format_45, format_46, format_46', format_47, format_on}
 use Rattle.wav.proofs.chunks.format.Goals as goal
 
-pub returns-then-file-lesser : goal.returns-then-file-lesser
-returns-then-file-lesser c = format_42 _ _ _ c.lesser.ensures c.if-file-lesser.true
+pub returns-then-file-min : goal.returns-then-file-min
+returns-then-file-min c = format_42 _ _ _ c.min.ensures c.if-file-min.true
 
 pub returns-then-size-lt16 : goal.returns-then-size-lt16
-returns-then-size-lt16 c = format_44 _ _ _ c.lesser.ensures c.if-file-lesser.false c.if-size-lt16.true
+returns-then-size-lt16 c = format_44 _ _ _ c.min.ensures c.if-file-min.false c.if-size-lt16.true
 
 pub returns-then-format-eq0 : goal.returns-then-format-eq0
 returns-then-format-eq0 c =
-    format_45 _ _ _ c.lesser.ensures
-    c.if-file-lesser.false c.if-size-lt16.false
+    format_45 _ _ _ c.min.ensures
+    c.if-file-min.false c.if-size-lt16.false
     (c.format_of-format.ensures.0
     ∙ ap₂ format_of c.tag_in.ensures c.two_at.ensures.0) c.if-format-eq0.true
 
 pub returns-then-channels-eq0 : goal.returns-then-channels-eq0
 returns-then-channels-eq0 c =
-    format_46 _ _ _ c.lesser.ensures
-    c.if-file-lesser.false
+    format_46 _ _ _ c.min.ensures
+    c.if-file-min.false
     c.if-size-lt16.false
     (c.format_of-format.ensures.0
     ∙ ap₂ format_of c.tag_in.ensures
@@ -29,8 +29,8 @@ returns-then-channels-eq0 c =
 
 pub returns-then-channels-gt64 : goal.returns-then-channels-gt64
 returns-then-channels-gt64 c =
-    format_46' _ _ _ c.lesser.ensures
-    c.if-file-lesser.false
+    format_46' _ _ _ c.min.ensures
+    c.if-file-min.false
     c.if-size-lt16.false
     (c.format_of-format.ensures.0
     ∙ ap₂ format_of c.tag_in.ensures
@@ -47,8 +47,8 @@ overflow_mul-channels c =
 pub returns-then-two_at-channels : goal.returns-then-two_at-channels
 returns-then-two_at-channels c =
     format_47
-    _ _ _ c.lesser.ensures
-    c.if-file-lesser.false
+    _ _ _ c.min.ensures
+    c.if-file-min.false
     c.if-size-lt16.false
     (c.format_of-format.ensures.0
     ∙ ap₂ format_of c.tag_in.ensures
@@ -60,8 +60,8 @@ returns-then-two_at-channels c =
 pub returns : goal.returns
 returns c =
     format_on
-    _ _ _ c.lesser.ensures
-    c.if-file-lesser.false
+    _ _ _ c.min.ensures
+    c.if-file-min.false
     c.if-size-lt16.false
     (c.format_of-format.ensures.0
     ∙ ap₂ format_of c.tag_in.ensures

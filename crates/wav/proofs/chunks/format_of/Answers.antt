@@ -3,30 +3,30 @@ use Rattle.rules.proofs.Tests.{tests}
 use Rattle.wav.specs.Chunks.{format_of}
 use Rattle.wav.proofs.chunks.format_of.Goals as goal
 
-pub returns-then-bits-eq16 : goal.returns-then-bits-eq16
+pub returns-in-1-eq16 : goal.returns-in-1-eq16
 unfolding format_of
-returns-then-bits-eq16 c = (search tests, omega arith)
+returns-in-1-eq16 c = (rw (c.in-1-eq16.is-0, c.in-1-eq16.is-1), omega arith)
 
-pub returns-then-bits-eq24 : goal.returns-then-bits-eq24
+pub returns-in-1-eq24 : goal.returns-in-1-eq24
 unfolding format_of
-returns-then-bits-eq24 c = (search tests, omega arith)
+returns-in-1-eq24 c = (rw (c.in-1-eq24.is-0, c.in-1-eq24.is-1), omega arith)
 
-pub returns-then-bits-eq32 : goal.returns-then-bits-eq32
+pub returns-in-1-eq32 : goal.returns-in-1-eq32
 unfolding format_of
-returns-then-bits-eq32 c = (search tests, omega arith)
+returns-in-1-eq32 c = (rw (c.in-1-eq32.is-0, c.in-1-eq32.is-1), omega arith)
 
-pub returns-then-tag-eq1 : goal.returns-then-tag-eq1
+pub returns-in-3-eq32 : goal.returns-in-3-eq32
 unfolding format_of
-returns-then-tag-eq1 c = (search tests, omega arith)
+returns-in-3-eq32 c = (rw (c.in-3-eq32.is-0, c.in-3-eq32.is-1), omega arith)
 
-pub returns-then-bits-eq32-2 : goal.returns-then-bits-eq32-2
+pub returns-in_default : goal.returns-in_default
 unfolding format_of
-returns-then-bits-eq32-2 c = (search tests, omega arith)
+returns-in_default c = (search tests, omega arith)
 
-pub returns-else-bits-eq32-2 : goal.returns-else-bits-eq32-2
+pub returns-in_default-2 : goal.returns-in_default-2
 unfolding format_of
-returns-else-bits-eq32-2 c = (search tests, omega arith)
+returns-in_default-2 c = (rw c.in_default.is-0 (search tests), omega arith)
 
-pub returns-else-tag-eq3 : goal.returns-else-tag-eq3
+pub returns-in_default-3 : goal.returns-in_default-3
 unfolding format_of
-returns-else-tag-eq3 c = (search tests, omega arith)
+returns-in_default-3 c = (search tests, omega arith)

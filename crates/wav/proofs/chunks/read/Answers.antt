@@ -1,38 +1,22 @@
-use mathlib.Core.Path.{sym, ◌∙◌}
 use borrow.Author.Tests.{eq-eqb}
+use Rattle.std.proofs.lemmas.Result.{err_from_is_err_and}
 use Rattle.rules.proofs.Tests.{tests}
-use Rattle.rules.proofs.Refusals.{leaves}
 use Rattle.wav.specs.Chunks.{step_told}
+use Rattle.wav.proofs.Steps.{told_step}
 use Rattle.wav.proofs.chunks.read.Goals as goal
 
 pub returns-then-numbers-ne5 : goal.returns-then-numbers-ne5
 unfolding step_told
 returns-then-numbers-ne5 c = search tests
 
-pub returns-in-Audio : goal.returns-in-Audio
+pub returns-in_err-next : goal.returns-in_err-next
 unfolding step_told
-returns-in-Audio c =
-    rw (
-      eq-eqb _ 5
-          c.if-numbers-ne5.false,
-      ← sym c.in-Audio.is
-          ∙ c.go_on.ensures,
-    ) (leaves c.tell.ensures)
+returns-in_err-next c =
+    let p = err_from_is_err_and c.from_residual.result c.from_residual.ensures.1 in
+    rw (p.1, p.2, eq-eqb _ 5 c.if-numbers-ne5.false, ← c.in_err-next.ensures)
 
-pub returns-in-On : goal.returns-in-On
+pub returns : goal.returns
 unfolding step_told
-returns-in-On c =
-    rw (
-      eq-eqb _ 5
-          c.if-numbers-ne5.false,
-      ← sym c.in-On.is
-          ∙ c.go_on.ensures,
-    ) (leaves c.tell-in-On.ensures)
-
-pub returns-in-Refused : goal.returns-in-Refused
-unfolding step_told
-returns-in-Refused c =
-    rw (
-      eq-eqb _ 5 c.if-numbers-ne5.false,
-      ← sym c.in-Refused.is ∙ c.go_on.ensures,
-    )
+returns c =
+    rw (eq-eqb _ 5 c.if-numbers-ne5.false, ← c.in_ok-next.ensures)
+    (told_step c.in_ok-next.next c.in_ok-next.found c.args.numbers.now c.tell.ensures)

@@ -13,4 +13,4 @@ pub returns : goal.returns
 unfolding head_written
 returns c =
     rw (eq-eqb _ 44 c.if-out-ne44.false)
-    (leaves (c.copy.ensures ∙ c.head_of-head.ensures))
+    (leaves (c.copy_from_slice.ensures.after ∙ c.head_of-head.ensures))

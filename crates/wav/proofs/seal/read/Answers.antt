@@ -22,8 +22,8 @@ returns-then-four_at-crc32 c =
     c.word_of.ensures c.if-four_at-word_of.false
     c.four_at-2.ensures.0 c.crc32.ensures c.if-four_at-crc32.true
 
-pub returns-in-Means : goal.returns-in-Means
-returns-in-Means c =
+pub returns-in-Some : goal.returns-in-Some
+returns-in-Some c =
     at_whole
     _ _ c.if-file-lt24.false
     c.four_at.ensures.0
@@ -38,8 +38,8 @@ returns-in-Means c =
     c.four_at-4.ensures.0
     c.four_at-short.ensures.0 (search rules)
 
-pub returns-in-Nothing : goal.returns-in-Nothing
-returns-in-Nothing c =
+pub returns-in-None : goal.returns-in-None
+returns-in-None c =
     at_53
     _ _ c.if-file-lt24.false
     c.four_at.ensures.0

@@ -1,6 +1,7 @@
 use Rattle.std.specs.Prelude.{◌∷◌}
-use Rattle.rules.proofs.Common.{[], sym, ◌∙◌}
+use Rattle.rules.proofs.Common.{[]}
 use borrow.Author.Tests.{eq-eqb}
+use Rattle.std.proofs.lemmas.Result.{err_from_is_err_and}
 use Rattle.rules.proofs.Tests.{tests}
 use Rattle.rules.proofs.Refusals.{leaves}
 use Rattle.rules.proofs.Places.{all_stored}
@@ -12,22 +13,15 @@ pub returns-then-numbers-ne3 : goal.returns-then-numbers-ne3
 unfolding seal_summary
 returns-then-numbers-ne3 c = search tests
 
-pub returns-in-Whole : goal.returns-in-Whole
+pub returns-in_err-seal : goal.returns-in_err-seal
 unfolding seal_summary
-returns-in-Whole c =
-    let s = c.in-Whole.seal in
-    rw (
-      c.number.ensures.0,
-      eq-eqb _ 3 c.if-numbers-ne3.false,
-      ← sym c.in-Whole.is ∙ c.read.ensures,
-    )
-    (leaves (all_stored c.args.numbers.now
-    (number_of s.side ∷ s.long ∷ s.short ∷ []) c.if-numbers-ne3.false))
+returns-in_err-seal c =
+    let p = err_from_is_err_and c.from_residual.result c.from_residual.ensures.1 in
+    rw (p.1, p.2, eq-eqb _ 3 c.if-numbers-ne3.false, ← c.in_err-seal.ensures)
 
-pub returns-in-Refused : goal.returns-in-Refused
+pub returns : goal.returns
 unfolding seal_summary
-returns-in-Refused c =
-    rw (
-      eq-eqb _ 3 c.if-numbers-ne3.false,
-      ← sym c.in-Refused.is ∙ c.read.ensures,
-    )
+returns c =
+    let s = c.in_ok-seal.seal in
+    rw (c.number.ensures.0, eq-eqb _ 3 c.if-numbers-ne3.false, ← c.in_ok-seal.ensures)
+    (leaves (all_stored c.args.numbers.now (number_of s.side ∷ s.long ∷ s.short ∷ []) c.if-numbers-ne3.false))

@@ -1,36 +1,20 @@
-use mathlib.Core.Path.{refl}
+use native.Mathlib.Nat.{div-div-eq-div-mul}
 use Rattle.sheet.specs.Sheet.{four}
-use Rattle.wav.proofs.Seals.{also}
 use Rattle.wav.proofs.seal.twenty.Goals as goal
 
 pub returns : goal.returns
 unfolding four
 returns c =
-    also
-    c.low.ensures
-    (also
-    c.low-2.ensures
-    (also
-    c.low-3.ensures
-    (also
-    c.low-4.ensures
-    (also
-    c.low-5.ensures
-    (also
-    c.low-6.ensures
-    (also
-    c.low-7.ensures
-    (also
-    c.low-8.ensures
-    (also c.low-9.ensures
-    (also c.low-10.ensures
-    (also c.low-11.ensures
-    (also c.low-12.ensures
-    (also c.low-13.ensures
-    (also c.low-14.ensures
-    (also c.low-15.ensures
-    (also c.low-16.ensures
-    (also c.low-17.ensures
-    (also c.low-18.ensures
-    (also c.low-19.ensures
-    (also c.low-20.ensures refl)))))))))))))))))))
+    rw (
+      c.copy_from_slice.ensures.after,
+      c.copy_from_slice-2.ensures.after,
+      c.copy_from_slice-3.ensures.after,
+      c.copy_from_slice-4.ensures.after,
+      c.to_le_bytes.ensures,
+      c.to_le_bytes-2.ensures,
+      c.to_le_bytes-3.ensures,
+      c.to_le_bytes-4.ensures,
+      div-div-eq-div-mul c.args.long 4294967296 256,
+      div-div-eq-div-mul c.args.long 4294967296 65536,
+      div-div-eq-div-mul c.args.long 4294967296 16777216,
+    )

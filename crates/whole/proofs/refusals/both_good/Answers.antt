@@ -19,17 +19,17 @@ lent side waiting store h l w =
     rw (add-sub_cancel_left (side * SHARE + PART) waiting)
     (sym (get_get (share_of side) (waiting_place waiting) store (omega arith) (omega arith)))
 
-pub returns-then-not-all_good : goal.returns-then-not-all_good
+pub returns-then-all_good : goal.returns-then-all_good
 unfolding get
-returns-then-not-all_good c =
+returns-then-all_good c =
     let a = c.args in
     let part = lent a.side a.waiting a.store.now c.requires.0 c.requires.1 c.requires.2 in
-    sym (good_bad _ a.samples.now (rw part at (sym c.all_good.ensures ∙ c.if-not-all_good.true)))
+    c.all_good-then-all_good.ensures
+    ∙ sym (good_rest _ a.samples.now (rw part at (sym c.all_good.ensures ∙ c.if-all_good.true)))
 
-pub returns : goal.returns
+pub returns-else-all_good : goal.returns-else-all_good
 unfolding get
-returns c =
+returns-else-all_good c =
     let a = c.args in
     let part = lent a.side a.waiting a.store.now c.requires.0 c.requires.1 c.requires.2 in
-    c.all_good-2.ensures ∙ sym
-    (good_rest _ a.samples.now (rw part at (sym c.all_good.ensures ∙ c.if-not-all_good.false)))
+    c.if-all_good.false ∙ sym (good_bad _ a.samples.now (rw part at (sym c.all_good.ensures ∙ c.if-all_good.false)))

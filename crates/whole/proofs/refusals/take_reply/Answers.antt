@@ -5,6 +5,8 @@ use Rattle.rules.proofs.Common.{ℕ, Bool, true, sym, ◌∙◌, length}
 use borrow.Author.Tests.{ne_eqb, le-leb, lt-leb}
 use Rattle.pieces.specs.Pieces.{piece_fits}
 use Rattle.desk.specs.Gate.{BENCHES}
+use Rattle.rules.proofs.Numbered.{never_0}
+use Rattle.desk.proofs.Results.{same_error}
 use Rattle.desk.proofs.Turned.{through}
 use Rattle.whole.specs.Whole.{take_reply}
 use Rattle.whole.proofs.Accepted.{fits_sizes}
@@ -15,16 +17,17 @@ sizes : (waiting size out : ℕ) {t : Bool} → t ≡ piece_fits waiting size ou
     → (waiting ≤ 479) × (size ≤ 4096)
 sizes waiting size out e h = let f = fits_sizes waiting size out 22 (sym e ∙ h) in (f.0, f.2)
 
-pub returns-then-number-ne0 : goal.returns-then-number-ne0
+pub returns-in_err-gate : goal.returns-in_err-gate
 unfolding take_reply
-returns-then-number-ne0 c = rw (← c.gate-number.ensures, ne_eqb c.gate-number.result 0 c.if-number-ne0.true)
+returns-in_err-gate c =
+    rw (same_error _ _ c.from_residual.ensures.1, ← c.in_err-gate.ensures, ne_eqb _ 0 (never_0 c.in_err-gate.field-0.0))
 
 pub returns-then-not-piece_fits : goal.returns-then-not-piece_fits
 unfolding take_reply
 returns-then-not-piece_fits c =
     rw (
-      ← c.gate-number.ensures,
-      c.if-number-ne0.false,
+      c.into.ensures,
+      ← c.in_ok-gate.ensures,
       sym c.piece_fits.ensures ∙ c.if-not-piece_fits.true,
     )
 
@@ -40,8 +43,8 @@ pub returns-then-rec-piece : goal.returns-then-rec-piece
 unfolding take_reply
 returns-then-rec-piece c =
     rw (
-      ← c.gate-number.ensures,
-      c.if-number-ne0.false,
+      c.into-then-rec-piece.ensures,
+      ← c.in_ok-gate.ensures,
       sym c.piece_fits.ensures ∙ c.if-not-piece_fits.false,
       lt-leb _ _ c.if-rec-piece.true,
     )
@@ -49,8 +52,7 @@ returns-then-rec-piece c =
 pub both_good-fine-requires : goal.both_good-fine-requires
 both_good-fine-requires c =
     let a = c.args in
-    let t = through BENCHES a.side.0 a.rec (length a.store.now) 5
-    (sym c.gate-number.ensures ∙ c.if-number-ne0.false) in
+    let t = through BENCHES a.side.0 a.rec (length a.store.now) 5 (sym c.in_ok-gate.ensures) in
     (t.0, t.1, (sizes _ _ _ c.piece_fits.ensures c.if-not-piece_fits.false).0)
 
 pub returns : goal.returns
@@ -58,8 +60,7 @@ unfolding take_reply
 returns c =
     c.last_tests.ensures
     ∙ rw (
-      ← c.gate-number.ensures,
-      c.if-number-ne0.false,
+      ← c.in_ok-gate.ensures,
       sym c.piece_fits.ensures ∙ c.if-not-piece_fits.false,
       le-leb _ _ c.if-rec-piece.false,
       c.both_good-fine.ensures,

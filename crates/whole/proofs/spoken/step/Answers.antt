@@ -14,9 +14,9 @@ gather-requires c =
     let r = c.requires in
     (r.fit.whole, r.ready.few, r.ready.short, omega (arith, r.ready.enough))
 
-pub process_frame-done-requires : goal.process_frame-done-requires
+pub process_frame-told-requires : goal.process_frame-told-requires
 unfolding get
-process_frame-done-requires c =
+process_frame-told-requires c =
     let a = c.args in
     let r = c.requires.ready in
     let long = samples_length a.j c.requires.fit.whole r in record {
@@ -41,5 +41,5 @@ returns c =
     let long = samples_length a.j c.requires.fit.whole r in
     let s = stepped a.rec a.share.now a.model.now a.out.now a.j c.requires.fit
     (waiting_in a.waiting a.share.now ++ a.piece.now) a.answers.now
-    (gathered _ a.j long c.gather.ensures) c.process_frame-done.ensures c.tell.ensures in
+    (gathered _ a.j long c.gather.ensures) c.process_frame-told.ensures c.tell.ensures in
     record { value = s.0; share_after = s.1.0; out_after = s.1.1.0; answers_after = s.1.1.1 }

@@ -1,9 +1,0 @@
--- `pitch::halve_at` meets its contract. Assumes nothing.
-use borrow.Author.Tests.{eq-eqb, ne_eqb}
-use Rattle.pitch.proofs.halve_at.Goals as goal
-
-pub returns-then-i-eq0 : goal.returns-then-i-eq0
-returns-then-i-eq0 c = rw (eq-eqb _ _ c.if-i-eq0.true)
-
-pub returns : goal.returns
-returns c = rw (ne_eqb _ _ c.if-i-eq0.false)
