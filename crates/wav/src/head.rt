@@ -14,6 +14,7 @@ fn riff_size(size: u32, behind: u32) -> u32
 }
 
 // The format's 16 bytes say: format 1, one channel, the rate, bytes a second, 2 bytes a sample, 16 bits.
+#[tactic(auto, using(sheet::proofs::Digits::four_mod), unfolding(crate::specs::Head::head_of, sheet::specs::Sheet::four))]
 pub fn head_of(rate: u32, size: u32, behind: u32) -> [u8; 44]
     ensures { result ≡ head_of rate size behind }
 {
@@ -30,6 +31,7 @@ pub fn head_of(rate: u32, size: u32, behind: u32) -> [u8; 44]
 
 // The head for so many bytes of audio at a rate, with so many bytes of chunks after them. 4,294,967,295 bytes
 // of audio mean: to the end of the file. A buffer of other than 44 bytes is refused.
+#[tactic(auto, unfolding(crate::specs::Head::head_written))]
 pub fn write(out: &mut [u8], rate: u32, size: u32, behind: u32) -> Result<(), Refusal>
     ensures { (told result leaving out.new) ≡ head_written rate size behind out.old }
 {
