@@ -14,7 +14,6 @@ fn riff_size(size: u32, behind: u32) -> u32
 }
 
 // The format's 16 bytes say: format 1, one channel, the rate, bytes a second, 2 bytes a sample, 16 bits.
-#[tactic(auto, using(sheet::proofs::Digits::four_mod), unfolding(crate::specs::Head::head_of, sheet::specs::Sheet::four))]
 pub fn head_of(rate: u32, size: u32, behind: u32) -> [u8; 44]
     ensures { result ≡ head_of rate size behind }
 {
