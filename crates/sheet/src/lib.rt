@@ -113,6 +113,7 @@ fn pointed_to(file: &[u8]) -> Result<Found, Refusal>
 }
 
 // The same sheet, by refusals 34 and 35.
+#[tactic(auto, using(crate::proofs::Halves::at_34, crate::proofs::Halves::at_35, crate::proofs::Halves::at_all))]
 fn checked_at(file: &[u8], found: Found) -> Result<Found, Refusal>
     requires { Pointed file.now found.start found.records found.side }
     ensures { read_as result ≡ checked file.now }
@@ -240,6 +241,7 @@ fn write_records(out: &mut [u8], side: Side, entries: &[u64])
 }
 
 // Writes the trailer after so many records, which are at the front.
+#[tactic(auto, using(crate::proofs::Laying::closing))]
 fn close(out: &mut [u8], records: usize, side: Side)
     requires { (length out.old ≡ sheet_size records) × (records < 2 ^ 29) }
     ensures { out.new ≡ closed records (number_of side) out.old }
@@ -339,6 +341,7 @@ fn mend_run(numbers: &mut [u64], out: &mut [u8], file: &[u8], at: usize) -> Resu
 // For a host: mends a torn sheet. The audio ends at a place. Whole good records of one side from there on are
 // kept, and get a new trailer. A file that reads with its records at that place is copied. The numbers are
 // how many bytes were written, and how many records they have.
+#[tactic(auto, unfolding(crate::specs::Mended::mend_of))]
 pub fn mend(numbers: &mut [u64], out: &mut [u8], file: &[u8], place: u64) -> Result<(), Refusal>
     ensures { (told result leaving numbers.new leaving out.new)
         ≡ mend_of file.now place numbers.old out.old }

@@ -111,7 +111,8 @@ returns c =
     let room : length bytes ≤ length out =
     rw (size c.args.file.now c.args.at _ c.requires.1 c.kept_of-records.ensures) c.if-out-size.false in
     let laid = lay_anew s at c.requires.1 (kept_there c.args.file.now c.args.at _ c.requires.1
-    c.kept_of-records.ensures) out (λ i. omega (arith, c.type_inv.file i)) (named _ _ c.of_number.ensures c.unwrap-side.ensures ∙ sym (get_or-drop at s 5 0))
+    c.kept_of-records.ensures) out (λ i. omega (arith, c.type_inv.file i))
+    (named _ _ c.of_number.ensures c.unwrap-side.ensures ∙ sym (get_or-drop at s 5 0))
     c.copy_from_slice.ensures.after c.close.ensures in
     rw (
       ← by_run c.args.file.now c.args.at c.args.numbers.now c.args.out.now c.requires.0 c.requires.1 c.requires.2,
@@ -120,4 +121,5 @@ returns c =
       le-ltb (length out) (length bytes) room,
       size c.args.file.now c.args.at _ c.requires.1 c.kept_of-records.ensures,
     )
-    (leave_both (c.copy_from_slice-2.ensures.after ∙ rw (← kept_there c.args.file.now c.args.at _ c.requires.1 c.kept_of-records.ensures)) laid)
+    (leave_both (c.copy_from_slice-2.ensures.after
+    ∙ rw (← kept_there c.args.file.now c.args.at _ c.requires.1 c.kept_of-records.ensures)) laid)

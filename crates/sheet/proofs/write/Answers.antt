@@ -16,19 +16,22 @@ returns-then-records-gt536870911 c = search tests
 
 pub returns-in_default : goal.returns-in_default
 unfolding written_of
-returns-in_default c = rw (le-ltb _ _ c.if-records-gt536870911.false, lt-ltb 1 _ (unnamed _ c.of_number.ensures (search rules)))
+returns-in_default c =
+    rw (le-ltb _ _ c.if-records-gt536870911.false, lt-ltb 1 _ (unnamed _ c.of_number.ensures (search rules)))
 
 pub returns-then-not-kinds_good : goal.returns-then-not-kinds_good
 unfolding written_of
 returns-then-not-kinds_good c =
     let heard = sym c.kinds_good.ensures ∙ c.if-not-kinds_good.true in
-    rw (le-ltb _ _ c.if-records-gt536870911.false, le-ltb 1 _ (small c.args.side c.in-Some.named c.of_number.ensures (search rules)), heard)
+    let less = small c.args.side c.in-Some.named c.of_number.ensures (search rules) in
+    rw (le-ltb _ _ c.if-records-gt536870911.false, le-ltb 1 _ less, heard)
 
 pub returns-then-out-size : goal.returns-then-out-size
 unfolding written_of
 returns-then-out-size c =
     let heard = sym c.kinds_good.ensures ∙ c.if-not-kinds_good.false in
-    rw (le-ltb _ _ c.if-records-gt536870911.false, le-ltb 1 _ (small c.args.side c.in-Some.named c.of_number.ensures (search rules)), heard, lt-ltb _ _ c.if-out-size.true)
+    let less = small c.args.side c.in-Some.named c.of_number.ensures (search rules) in
+    rw (le-ltb _ _ c.if-records-gt536870911.false, le-ltb 1 _ less, heard, lt-ltb _ _ c.if-out-size.true)
 
 pub slice_bounds-write_records-end-2 : goal.slice_bounds-write_records-end-2
 slice_bounds-write_records-end-2 c = simp length-take (omega arith)

@@ -23,7 +23,8 @@ returns-then-more-gt536870911 c =
     ])
 
 pub returns-in_default : goal.returns-in_default
-returns-in_default c = rows_33 _ _ _ _ c.if-numbers-ne2.false (omega arith) (unnamed _ c.of_number.ensures (search rules))
+returns-in_default c =
+    rows_33 _ _ _ _ c.if-numbers-ne2.false (omega arith) (unnamed _ c.of_number.ensures (search rules))
 
 pub returns-then-not-kinds_good : goal.returns-then-not-kinds_good
 returns-then-not-kinds_good c =
@@ -46,5 +47,7 @@ pub returns : goal.returns
 returns c =
     rows_laid _ _ _ _ c.if-numbers-ne2.false (omega arith) (small _ c.in-Some.named c.of_number.ensures (search rules))
     (sym c.kinds_good.ensures ∙ c.if-not-kinds_good.false) c.if-out-end.false
-    (c.lay-sum.ensures.0 ∙ ap (λ (k : ℕ). records_of k c.args.entries.now) (named _ c.in-Some.named c.of_number.ensures (search rules)))
-    (c.lay-sum.ensures.1 ∙ ap (λ (k : ℕ). sum (records_of k c.args.entries.now)) (named _ c.in-Some.named c.of_number.ensures (search rules)))
+    (c.lay-sum.ensures.0 ∙ ap (λ (k : ℕ). records_of k c.args.entries.now)
+    (named _ c.in-Some.named c.of_number.ensures (search rules)))
+    (c.lay-sum.ensures.1 ∙ ap (λ (k : ℕ). sum (records_of k c.args.entries.now))
+    (named _ c.in-Some.named c.of_number.ensures (search rules)))

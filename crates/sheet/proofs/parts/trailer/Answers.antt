@@ -14,7 +14,8 @@ returns-then-count-gt536870911 c = search tests
 
 pub returns-in_default : goal.returns-in_default
 unfolding trailer_laid
-returns-in_default c = rw (le-ltb _ _ c.if-count-gt536870911.false, lt-ltb 1 _ (unnamed _ c.of_number.ensures (search rules)))
+returns-in_default c =
+    rw (le-ltb _ _ c.if-count-gt536870911.false, lt-ltb 1 _ (unnamed _ c.of_number.ensures (search rules)))
 
 pub returns-then-out-lt16 : goal.returns-then-out-lt16
 unfolding trailer_laid
