@@ -61,7 +61,7 @@ fn gather(out: &mut [f32], share: &[f32], waiting: usize, piece: &[f32], j: usiz
 }
 
 // Frame j, counted from 0, of the samples that wait followed by the piece's, and its three answers.
-// Stays: eight parameters. `dictate` alone calls it, and a struct of borrowed parts is taken apart here at once, so that
+// Stays: eight parameters. `dictate` alone calls it, and a struct of borrowed parts is taken apart here at once, so
 // it is no plainer.
 fn step(
     share: &mut [f32],
