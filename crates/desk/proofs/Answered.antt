@@ -1,10 +1,10 @@
 -- What the desk makes of a call, by what the call gives on the side's share.
---     replied-by, refused     the reply is the share's, but for a call 4 that is done
---     done-alike              a call is done at the desk exactly where it is done on the share
---     admitted-by             what holds of a refusal, and of the call where the gate gives 0, holds of an admitted
+--     replied_by, refused     the reply is the share's, but for a call 4 that is done
+--     done_alike              a call is done at the desk exactly where it is done on the share
+--     admitted_by             what holds of a refusal, and of the call where the gate gives 0, holds of an admitted
 --                             call
---     let-in                  where the gate gives 0, the call's effect on the share is the desk's
---     was-let-in, on-share    a call that is done was let through, and is done on the share
+--     let_in                  where the gate gives 0, the call's effect on the share is the desk's
+--     was_let_in, on_share    a call that is done was let through, and is done on the share
 -- Assumes nothing.
 use Rattle.std.specs.Prelude.{◌&&◌, ◌≡◌}
 use Rattle.rules.proofs.Common.{ℕ, Bool, true, false, cond, false≢true, List, refl, sym, ◌∙◌, eqb, length}

@@ -1,8 +1,8 @@
 -- What the law of isolation rests on: laws of one call, over the definition `desk` and any number of benches.
 --     its_own         a call on a side is what a desk of one bench makes of it, with the side's share for its store
---     other-share     no other side's share changes
+--     other_share     no other side's share changes
 --     same_length     the store keeps its length
---     closed-alike    what the share of a closed side held is never told
+--     closed_alike    what the share of a closed side held is never told
 --     anew            an opening that is done forgets the record and the share that it found
 -- Assumes nothing.
 use Rattle.std.specs.Prelude.{◌*◌, ◌≤◌, ◌<◌, ◌≡◌}

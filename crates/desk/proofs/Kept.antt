@@ -1,6 +1,6 @@
 -- What a call keeps.
---     admitted-kept    a share's length; and, refused, the share
---     refused-keeps    refused, the record and the store
+--     admitted_kept    a share's length; and, refused, the share
+--     refused_keeps    refused, the record and the store
 -- Assumes nothing.
 use Rattle.std.specs.Prelude.{◌≡◌}
 use Rattle.rules.proofs.Common.{ℕ, false, true≢false, List, refl, sym, ap, ◌∙◌, length, Float}

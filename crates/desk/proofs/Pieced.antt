@@ -1,7 +1,7 @@
 -- What is known of a piece and of a resume that are done. Assumes nothing.
---     piece-fitted, resume-fitted    they passed every test
---     piece-told, resume-told        so that their numbers can be reckoned with
---     resume-no-out                  a resume with no place for its samples is refused
+--     piece_fitted, resume_fitted    they passed every test
+--     piece_told, resume_told        so that their numbers can be reckoned with
+--     resume_no_out                  a resume with no place for its samples is refused
 use Rattle.std.specs.Prelude.{◌≤◌, ◌≡◌}
 use Rattle.rules.proofs.Common.{ℕ, true, false, false≢true, List, refl, sym, ap, ◌∙◌, length, Float}
 use native.Mathlib.Omega.{arith}

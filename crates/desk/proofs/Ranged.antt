@@ -1,5 +1,5 @@
 -- The record that a call hands back is in range: a host that hands back what it received is never turned away for it.
---     range-kept    where a call is done, the record that it was given and the one that it gives back are in range
+--     range_kept    where a call is done, the record that it was given and the one that it gives back are in range
 --     bounded       what in range says, in numbers
 --     left_open     where a call is done, its side is open
 --     seated        where a call is done, its side is one of the benches

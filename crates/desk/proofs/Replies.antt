@@ -1,6 +1,6 @@
 -- What a call may reply.
 --     small     a refused model's number is 11 to 22 and its layer 0 to 6, whatever call brings them
---     no-out, no-half-out, no-resume-out    call 3 with no place for its spectrum, and a second half and a resume with
+--     no_out, no_half_out, no_resume_out    call 3 with no place for its spectrum, and a second half and a resume with
 --                                           none for their samples, are refused
 -- Assumes nothing.
 use Rattle.std.specs.Prelude.{◌-◌, ◌*◌, ◌++◌, ◌≡◌}

@@ -1,8 +1,8 @@
 -- Laws of the gate.
 --     none          where it gives 0, no test of the table holds
 --     through       where it gives 0, the side and the store are right
---     gate-own      of a side and a store that are right, the side's own record decides alone
---     closed-opens  a closed side lets nothing through but an opening
+--     gate_own      of a side and a store that are right, the side's own record decides alone
+--     closed_opens  a closed side lets nothing through but an opening
 -- Assumes nothing.
 use Rattle.std.specs.Prelude.{◌*◌, ◌<◌, ◌≡◌}
 use Rattle.rules.proofs.Common.{ℕ, Bool, true, false, true≢false, refl, eqb, ltb}

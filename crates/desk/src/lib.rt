@@ -89,16 +89,15 @@ pub fn holding(due: usize, rec: Record, waiting: usize, size: usize, progress: u
 }
 
 // Whether nothing waits and no piece is unfinished.
+#[tactic(auto, unfolding(crate::specs::Gate::idle))]
 fn idle(rec: Record) -> bool
     ensures { result ≡ idle rec }
 {
-    if rec.waiting != 0 {
-        return false;
-    }
-    rec.piece == 0
+    rec.waiting == 0 && rec.piece == 0
 }
 
 // A way as a number.
+// Stays: its enum is another crate's, and carries no numbers of its own; a match is as plain as a conversion.
 pub fn way_number(way: Way) -> u32
     ensures { result ≡ way_number way }
 {
@@ -109,140 +108,92 @@ pub fn way_number(way: Way) -> u32
 }
 
 // Whether everything in a closed record is 0.
+#[tactic(auto, unfolding(crate::specs::Gate::all_zero))]
 fn all_zero(rec: Record) -> bool
     ensures { result ≡ all_zero rec }
 {
-    if rec.hearing.index != 0 {
-        return false;
-    }
-    if rec.hearing.vad != 0 {
-        return false;
-    }
-    if rec.hearing.noise != 0 {
-        return false;
-    }
-    if rec.hearing.denoise != 0 {
-        return false;
-    }
-    if rec.frame != 0 {
-        return false;
-    }
-    if rec.heard != 0 {
-        return false;
-    }
-    if !idle(rec) {
-        return false;
-    }
-    if rec.progress != 0 {
-        return false;
-    }
-    let hearing = rec.hearing;
-    let way = hearing.way;
-    way_number(way) == 0
+    rec.hearing.index == 0
+        && rec.hearing.vad == 0
+        && rec.hearing.noise == 0
+        && rec.hearing.denoise == 0
+        && rec.frame == 0
+        && rec.heard == 0
+        && idle(rec)
+        && rec.progress == 0
+        && way_number(rec.hearing.way) == 0
 }
 
 // Whether the GRU counts of an open record are in range.
+#[tactic(auto, unfolding(crate::specs::Gate::in_counts))]
 fn in_counts(rec: Record) -> bool
     ensures { result ≡ in_counts rec }
 {
-    if rec.hearing.vad < 1 {
-        return false;
-    }
-    if rec.hearing.vad > 127 {
-        return false;
-    }
-    if rec.hearing.noise < 1 {
-        return false;
-    }
-    if rec.hearing.noise > 127 {
-        return false;
-    }
-    if rec.hearing.denoise < 1 {
-        return false;
-    }
-    rec.hearing.denoise <= 127
+    1 <= rec.hearing.vad
+        && rec.hearing.vad <= 127
+        && 1 <= rec.hearing.noise
+        && rec.hearing.noise <= 127
+        && 1 <= rec.hearing.denoise
+        && rec.hearing.denoise <= 127
 }
 
 // Whether a record with no unfinished piece is right so: where samples wait, call 1 is due.
+#[tactic(auto, unfolding(crate::specs::Gate::resting))]
 fn resting(rec: Record) -> bool
     ensures { result ≡ resting rec }
 {
-    if rec.progress != 0 {
-        return false;
-    }
-    if rec.waiting == 0 {
-        return true;
-    }
-    if rec.waiting > 479 {
-        return false;
-    }
-    rec.due == 1
+    rec.progress == 0 && (rec.waiting == 0 || rec.waiting <= 479 && rec.due == 1)
 }
 
 // Whether a record with an unfinished piece is right so.
+#[tactic(auto, unfolding(crate::specs::Gate::under_way))]
 fn under_way(rec: Record) -> bool
     ensures { result ≡ under_way rec }
 {
-    if rec.piece > 4096 {
-        return false;
-    }
-    if rec.due != 3 {
-        return false;
-    }
-    if rec.waiting != 0 {
-        return false;
-    }
-    if rec.progress < 1 {
-        return false;
-    }
-    rec.progress <= rec.piece
+    rec.piece <= 4096
+        && rec.due == 3
+        && rec.waiting == 0
+        && 1 <= rec.progress
+        && rec.progress <= rec.piece
 }
 
+#[tactic(auto, unfolding(crate::specs::Gate::in_pieces))]
 fn in_pieces(rec: Record) -> bool
     ensures { result ≡ in_pieces rec }
 {
     if rec.piece == 0 {
-        return resting(rec);
+        resting(rec)
+    } else {
+        under_way(rec)
     }
-    under_way(rec)
 }
 
 // Whether a record is in range.
+#[tactic(auto, unfolding(crate::specs::Gate::in_range))]
 fn in_range(rec: Record) -> bool
     ensures { result ≡ in_range rec }
 {
     if rec.due == 0 {
         return all_zero(rec);
     }
-    if rec.due > 4 {
-        return false;
-    }
-    if rec.hearing.index > 7 {
-        return false;
-    }
-    if !in_counts(rec) {
-        return false;
-    }
-    in_pieces(rec)
+    rec.due <= 4 && rec.hearing.index <= 7 && in_counts(rec) && in_pieces(rec)
 }
 
 // Whether a call is due.
+#[tactic(auto, unfolding(crate::specs::Gate::is_due))]
 fn is_due(rec: Record, call: usize) -> bool
     ensures { result ≡ is_due rec call }
 {
-    if call == PIECE {
-        return rec.due == 1;
+    match call {
+        PIECE => rec.due == 1,
+        RESUME => rec.piece != 0,
+        _ => rec.due == call && idle(rec),
     }
-    if call == RESUME {
-        return rec.piece != 0;
-    }
-    if rec.due != call {
-        return false;
-    }
-    idle(rec)
 }
 
 // Refusals 1 to 4: `call` is the call asked for, and 0 an opening.
+// Stays: the call's number in `gate`, `is_due`, `admit` and `next_due`, and the test for 0. A caller of `gate` may pass
+// any number, and gate's definition speaks of all of them.
+#[tactic(auto, unfolding(crate::specs::Gate::gate))]
 pub fn gate(side: Bench, rec: Record, len: usize, call: usize) -> Result<(), Refusal>
     ensures { told result ≡ gate BENCHES side.0 rec len call }
 {
@@ -279,6 +230,7 @@ struct Share {
 }
 
 // The side's share, for a call that the gate lets through.
+#[tactic(auto, using(crate::proofs::Turned::through))]
 fn admit(side: Bench, rec: Record, len: usize, call: usize) -> Result<Share, Refusal>
     ensures { Admits BENCHES side.0 rec len call result }
 {
@@ -388,6 +340,7 @@ pub fn told_second(rec: Record, outcome: Result<Told, Cause>) -> Result<(Told, R
 }
 
 // The record with so many samples of a piece of this size in no frame yet: they wait, or a frame is under way.
+#[tactic(auto, unfolding(crate::specs::Desk::carried))]
 fn carried(rec: Record, rest: usize, size: usize, progress: usize) -> Record
     ensures { result ≡ carried rec rest size progress }
 {

@@ -1,7 +1,7 @@
 -- What a feed gives a host that hands its record back as numbers.
---     feed-small, feed-range    a refused model's number and layer are small; where it is done, both records are in
+--     feed_small, feed_range    a refused model's number and layer are small; where it is done, both records are in
 --                               range
---     feed-leaves, entry-small  refused, it changes nothing; what specs/Laws.antt claims
+--     feed_leaves, entry_small  refused, it changes nothing; what specs/Laws.antt claims
 -- Assumes nothing.
 use Rattle.std.specs.Prelude.{◌+◌, ◌%◌, ◌<◌, ◌≡◌}
 use Rattle.rules.proofs.Common.{ℕ, Bool, true, false, cond, true≢false, false≢true, List, refl}

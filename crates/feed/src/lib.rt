@@ -19,6 +19,8 @@ mod out;
 mod refusals;
 
 // What comes of the samples of a channel is handed out, where their take is not refused.
+// Stays: eight parameters. They are the caller's own, `feed` alone calls it, and a struct of borrowed parts is taken
+// apart here at once, so that it is no plainer.
 fn clean(
     side: Bench,
     rec: Record,
@@ -48,6 +50,7 @@ fn clean(
 
 // A block and the model in. For each frame that its samples complete this writes 960 bytes, a record of 8 bytes, and
 // three answers: heard or not, voice, energy.
+// Stays: the format's number, here and in `samples_in`. It is the C interface's, and any number may come.
 pub fn feed(
     side: Bench,
     rec: Record,

@@ -1,4 +1,6 @@
 // What comes out: bytes, and records of the side sheet.
+// Stays: the side as a number of at most 1. The writer of the sheet takes a number, so that a side is turned back into
+// one here, which is no plainer.
 ghost use Rattle.std.specs.Prelude.{◌≡◌, true, ◌*◌, ◌≤◌, length};
 ghost use Rattle.rules.specs.F32.{at, part};
 ghost use Rattle.rules.specs.Tab.{tab};

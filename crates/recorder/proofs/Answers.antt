@@ -10,21 +10,16 @@ use lib.ListN.{drop_of_length-le}
 use lib.Seq.{take_all}
 use Rattle.rules.specs.Leaf.{◌leaving◌}
 use Rattle.rules.specs.Refusals.{Row, refusing}
-use Rattle.rules.proofs.Refusals.{leaves, leave_both, clear, cleared, due, above}
+use Rattle.rules.proofs.Refusals.{leave_both, clear, cleared, due, above}
 use Rattle.rules.proofs.Numbered.{never_0}
 use Rattle.rules.specs.Refusal.{refusal_number, told}
 use Rattle.rules.specs.declared.refusal.Refusal.{Refusal}
 use Rattle.rules.proofs.Tests.{neither}
 use Rattle.recorder.specs.Recorder.{skip_of, room_of, belonging, start_of}
-use Rattle.recorder.specs.Recorder.{with_feed, more_rows, LONGEST, FRAMES, closing_of, close_rows}
-use Rattle.recorder.specs.Recorder.{following, next_rows}
-use Rattle.recorder.specs.Numbers.{recorder_in, recorder_numbers, more_laid, closing_laid, next_laid}
-use Rattle.recorder.specs.Numbers.{finish_laid}
+use Rattle.recorder.specs.Recorder.{with_feed, more_rows, LONGEST, FRAMES}
+use Rattle.recorder.specs.Numbers.{recorder_in, recorder_numbers, more_laid}
 use Rattle.recorder.specs.Private.{with_audio, Within}
 use Rattle.recorder.specs.declared.Recorder.{Recorder}
-use Rattle.sides.specs.Sides as sides
-use Rattle.sheet.specs.Sheet.{trailer_of}
-use Rattle.recording.specs.Recording.{head_for, chunk_for}
 
 -- ---- the part that belongs to the recording
 
@@ -122,56 +117,3 @@ module _ (taken : ℕ) (cleaned records ns out : List ℕ) (eight : length ns �
       rw (eq-eqb (length ns) 8 eight, eq-eqb (length out) 2 two, ← rs)
       (leave_both (ms ∙ ap recorder_numbers es ∙ rw bs) (ps ∙ rw (bs, ss))
       ∙ passed_by (λ k. k leaving ns leaving out) _ (more_rows r taken cleaned records) tried tt e)
-
-pub closing_done : (ns out : List ℕ) → length out ≡ 1 → length ns ≡ 8 → {r : Recorder} → r ≡ recorder_in ns → {n : ℕ}
-    → n ≡ closing_of r → {after : List ℕ} → after ≡ n ∷ [] → (0 leaving after) ≡ closing_laid ns out
-unfolding closing_laid
-closing_done ns out one eight rs ms a =
-    rw (eq-eqb (length out) 1 one, eq-eqb (length ns) 8 eight) (leaves (a ∙ rw (ms, rs)))
-
-module _ (began : ℕ) (ns : List ℕ) (eight : length ns ≡ 8) {r : Recorder} (rs : r ≡ recorder_in ns)
-    {t : Result (Unit {0}) Refusal} (tried : told t ≡ refusing (next_rows r) (λ n. n) 0) where
-  pub next_refused : {x : Refusal} → t ≡ Err x → (refusal_number x leaving ns) ≡ next_laid began ns
-  unfolding next_laid
-  next_refused e =
-      rw (eq-eqb (length ns) 8 eight, ← rs) (refused_with (λ k. k leaving ns) _ (next_rows r) tried e)
-
-  pub next_done : {u : Unit {0}} → t ≡ Ok u → {next : Recorder} {after : List ℕ} → next ≡ following r began
-      → after ≡ recorder_numbers next → (0 leaving after) ≡ next_laid began ns
-  unfolding next_laid
-  next_done e es a =
-      rw (eq-eqb (length ns) 8 eight, ← rs)
-      (leaves (a ∙ ap recorder_numbers es) ∙ passed_by (λ k. k leaving ns) _ (next_rows r) tried tt e)
-
-module _ (ns head chunk trailer : List ℕ) (eight : length ns ≡ 8) (room : length head ≡ 76)
-    (between : length chunk ≡ 32) (last : length trailer ≡ 16) {r : Recorder} (rs : r ≡ recorder_in ns)
-    {t : Result (Unit {0}) Refusal} (tried : told t ≡ refusing (close_rows r) (λ n. n) 0) where
-  pub finish_refused : {x : Refusal} → t ≡ Err x
-      → (refusal_number x leaving head leaving chunk leaving trailer) ≡ finish_laid ns head chunk trailer
-  unfolding finish_laid
-  finish_refused e =
-      rw (
-        eq-eqb (length ns) 8 eight,
-        eq-eqb (length head) 76 room,
-        eq-eqb (length chunk) 32 between,
-        eq-eqb (length trailer) 16 last,
-        ← rs,
-      )
-      (refused_with (λ k. k leaving head leaving chunk leaving trailer) _ (close_rows r) tried e)
-
-  pub finish_done : {u : Unit {0}} → t ≡ Ok u → {x y z : List ℕ} → x ≡ head_for r.front r.size
-      → y ≡ chunk_for r.front r.size r.crc → z ≡ trailer_of r.count (sides.number_of r.front.side) r.sum
-      → (0 leaving x leaving y leaving z) ≡ finish_laid ns head chunk trailer
-  unfolding finish_laid
-  finish_done e xs ys zs =
-      rw (
-        eq-eqb (length ns) 8 eight,
-        eq-eqb (length head) 76 room,
-        eq-eqb (length chunk) 32 between,
-        eq-eqb (length trailer) 16 last,
-        ← rs,
-        xs,
-        ys,
-        zs,
-      )
-      (passed_by (λ k. k leaving head leaving chunk leaving trailer) _ (close_rows r) tried tt e)

@@ -39,6 +39,7 @@ pub struct Recorder {
 
 // ---- in numbers
 
+#[tactic(auto, unfolding(crate::specs::Numbers::recorder_in))]
 fn recorder_in(numbers: &[u64; 8]) -> Recorder
     ensures { result ≡ recorder_in numbers.now }
 {
@@ -132,6 +133,7 @@ fn start_of(recorder: Recorder, bytes: usize) -> usize
 }
 
 // The bytes that belong to the recording.
+#[tactic(auto, using(crate::proofs::Answers::part_at))]
 fn belonging(recorder: Recorder, taken: u32, cleaned: &[u8]) -> &[u8]
     ensures { result.now ≡ belonging recorder taken cleaned.now }
 {
@@ -226,7 +228,7 @@ pub fn closing(silence: &mut [u64], numbers: &[u64]) -> Result<(), Refusal>
     let (1, Some(numbers)) = (silence.len(), numbers.as_array()) else {
         return Err(Refusal::WrongLength);
     };
-    silence[0] = closing_of(recorder_in(numbers));
+    silence.copy_from_slice(&[closing_of(recorder_in(numbers))]);
     Ok(())
 }
 

@@ -1,5 +1,6 @@
 pub mod Digits
 pub mod Fields
+pub mod Sided
 pub mod Runs
 pub mod Halves
 pub mod Laying

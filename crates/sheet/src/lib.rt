@@ -8,6 +8,7 @@ ghost use Rattle.std.specs.Prelude.{false, ◌≡◌, ◌+◌, ◌*◌, ◌/◌,
 ghost use Rattle.rules.specs.Leaf.{◌leaving◌};
 ghost use Rattle.rules.specs.Lists.{sum};
 ghost use Rattle.rules.specs.Refusal.{told};
+ghost use Rattle.sides.specs.Sides.{number_of};
 ghost use Rattle.sheet.specs.Sheet.{four, kind, record_bytes, records_of, trailer_of, sheet_size};
 ghost use Rattle.sheet.specs.End.{from_four, three_zeros, good_record, run, entry_of, read_as, read_sheet};
 ghost use Rattle.sheet.specs.Asked.{sheet_summary, entry_at};
@@ -16,6 +17,7 @@ ghost use Rattle.sheet.specs.Mended.{kept, reads_at, mend_of};
 ghost use Rattle.sheet.specs.Private.{pointed, Few, Pointed, checked, Kinds, closed, copied};
 
 use rules::Refusal;
+use sides::Side;
 
 // A good sheet in a file.
 #[derive(Clone, Copy)]
@@ -35,6 +37,7 @@ pub fn joined(a: u8, b: u8, c: u8, d: u8) -> usize
 }
 
 // The number that four bytes at a place are, least significant byte first.
+#[tactic(auto, using(crate::proofs::Fields::four_at_lem))]
 fn number_at(file: &[u8], at: usize) -> usize
     requires { at + 4 ≤ length file.now }
     ensures { (result ≡ from_four (drop at file.now)) × (result < 2 ^ 32) }
@@ -43,35 +46,21 @@ fn number_at(file: &[u8], at: usize) -> usize
 }
 
 // Whether three bytes at a place are 0.
-// Stays: with `&&` in place of the tests in a row it was tried, and the proof didn't close. So it is in `is_good`.
+#[tactic(auto, using(crate::proofs::Fields::zeros_at))]
 fn zeros_at(bytes: &[u8], at: usize) -> bool
     requires { at + 3 ≤ length bytes.now }
     ensures { result ≡ three_zeros (drop at bytes.now) }
 {
-    if bytes[at] != 0 {
-        return false;
-    }
-    if bytes[at + 1] != 0 {
-        return false;
-    }
-    bytes[at + 2] == 0
+    bytes[at] == 0 && bytes[at + 1] == 0 && bytes[at + 2] == 0
 }
 
 // Whether the record at a place is a good one of this side.
+#[tactic(auto, using(crate::proofs::Fields::good_at))]
 fn is_good(bytes: &[u8], at: usize, side: u32) -> bool
     requires { at + 8 ≤ length bytes.now }
     ensures { result ≡ good_record side (drop at bytes.now) }
 {
-    if 1 < bytes[at + 4] {
-        return false;
-    }
-    if bytes[at + 5] as u32 != side {
-        return false;
-    }
-    if bytes[at + 6] != 0 {
-        return false;
-    }
-    bytes[at + 7] == 0
+    bytes[at + 4] <= 1 && bytes[at + 5] as u32 == side && bytes[at + 6] == 0 && bytes[at + 7] == 0
 }
 
 // How many of the first n records are good ones of this side, up to the first that is not.
@@ -124,6 +113,7 @@ fn pointed_to(file: &[u8]) -> Result<Found, Refusal>
 }
 
 // The same sheet, by refusals 34 and 35.
+#[tactic(auto, using(crate::proofs::Halves::at_34, crate::proofs::Halves::at_35, crate::proofs::Halves::at_all))]
 fn checked_at(file: &[u8], found: Found) -> Result<Found, Refusal>
     requires { Pointed file.now found.start found.records found.side }
     ensures { read_as result ≡ checked file.now }
@@ -148,6 +138,7 @@ pub fn read(file: &[u8]) -> Result<Found, Refusal>
 
 // For a host: where the records start, how many there are, and the side. A buffer of other than three places
 // is refused as of a wrong length.
+#[tactic(auto, unfolding(crate::specs::Asked::sheet_summary))]
 pub fn summary(numbers: &mut [u64], file: &[u8]) -> Result<(), Refusal>
     ensures { (told result leaving numbers.new) ≡ sheet_summary file.now numbers.old }
 {
@@ -155,13 +146,12 @@ pub fn summary(numbers: &mut [u64], file: &[u8]) -> Result<(), Refusal>
         return Err(Refusal::WrongLength);
     }
     let found = read(file)?;
-    numbers[0] = found.start as u64;
-    numbers[1] = found.records as u64;
-    numbers[2] = found.side as u64;
+    numbers.copy_from_slice(&[found.start as u64, found.records as u64, found.side as u64]);
     Ok(())
 }
 
 // The entry of the record at a place.
+#[tactic(auto, using(crate::proofs::Fields::entry_at_lem))]
 fn entry_of(file: &[u8], at: usize) -> u64
     requires { at + 8 ≤ length file.now }
     ensures { result ≡ entry_of (drop at file.now) }
@@ -181,7 +171,7 @@ pub fn entry(entry: &mut [u64], file: &[u8], index: u64) -> Result<(), Refusal>
     if found.records as u64 <= index {
         return Err(Refusal::WrongLength);
     }
-    entry[0] = entry_of(file, found.start + 8 * (index as usize));
+    entry.copy_from_slice(&[entry_of(file, found.start + 8 * (index as usize))]);
     Ok(())
 }
 
@@ -205,39 +195,42 @@ pub fn low(number: u64) -> u8
 }
 
 // The four bytes of a number modulo 2^32, least significant byte first.
+#[tactic(auto, using(crate::proofs::Digits::four_mod), unfolding(crate::specs::Sheet::four))]
 pub fn four(number: u64) -> [u8; 4]
     ensures { result ≡ four number }
 {
     ((number % 4294967296) as u32).to_le_bytes()
 }
 
-fn record_of(side: u32, entry: u64) -> [u8; 8]
-    requires { (side ≤ 1) × (kind entry ≤ 1) }
-    ensures { result ≡ record_bytes side entry }
+#[tactic(auto, unfolding(crate::specs::Sheet::record_bytes, crate::specs::Sheet::four))]
+fn record_of(side: Side, entry: u64) -> [u8; 8]
+    requires { kind entry ≤ 1 }
+    ensures { result ≡ record_bytes (number_of side) entry }
 {
     let mut bytes = [0; 8];
     bytes[..4].copy_from_slice(&four(entry));
     bytes[4] = (entry / 4294967296) as u8;
-    bytes[5] = side as u8;
+    bytes[5] = side.number();
     bytes
 }
 
-fn trailer_of(records: usize, side: u32, sum: u64) -> [u8; 16]
-    requires { (records < 2 ^ 29) × (side ≤ 1) }
-    ensures { result ≡ trailer_of records side sum }
+#[tactic(auto, unfolding(crate::specs::Sheet::trailer_of, crate::specs::Sheet::four))]
+fn trailer_of(records: usize, side: Side, sum: u64) -> [u8; 16]
+    requires { records < 2 ^ 29 }
+    ensures { result ≡ trailer_of records (number_of side) sum }
 {
     let n = records as u32;
     let mut bytes = [0; 16];
     bytes[..4].copy_from_slice(&(8 * n).to_le_bytes());
     bytes[4..8].copy_from_slice(&n.to_le_bytes());
-    bytes[8..12].copy_from_slice(&[side as u8, 0, 0, 0]);
+    bytes[8..12].copy_from_slice(&[side.number(), 0, 0, 0]);
     bytes[12..].copy_from_slice(&four(sum));
     bytes
 }
 
-fn write_records(out: &mut [u8], side: u32, entries: &[u64])
-    requires { (length out.old ≡ 8 * length entries.now) × (side ≤ 1) × Kinds entries.now }
-    ensures { out.new ≡ records_of side entries.now }
+fn write_records(out: &mut [u8], side: Side, entries: &[u64])
+    requires { (length out.old ≡ 8 * length entries.now) × Kinds entries.now }
+    ensures { out.new ≡ records_of (number_of side) entries.now }
 {
     for (i, entry) in entries.iter().enumerate() {
         let bytes = record_of(side, *entry);
@@ -248,9 +241,10 @@ fn write_records(out: &mut [u8], side: u32, entries: &[u64])
 }
 
 // Writes the trailer after so many records, which are at the front.
-fn close(out: &mut [u8], records: usize, side: u32)
-    requires { (length out.old ≡ sheet_size records) × (records < 2 ^ 29) × (side ≤ 1) }
-    ensures { out.new ≡ closed records side out.old }
+#[tactic(auto, using(crate::proofs::Laying::closing))]
+fn close(out: &mut [u8], records: usize, side: Side)
+    requires { (length out.old ≡ sheet_size records) × (records < 2 ^ 29) }
+    ensures { out.new ≡ closed records (number_of side) out.old }
 {
     let end = 8 * records;
     let sum = total(&out[..end]);
@@ -268,9 +262,9 @@ pub fn write(out: &mut [u8], side: u32, entries: &[u64]) -> Result<(), Refusal>
     if 536870911 < records {
         return Err(Refusal::SheetDistance);
     }
-    if 1 < side {
+    let Some(named) = Side::of_number(side) else {
         return Err(Refusal::SheetSide);
-    }
+    };
     if !kinds_good(entries) {
         return Err(Refusal::SheetRecord);
     }
@@ -279,12 +273,13 @@ pub fn write(out: &mut [u8], side: u32, entries: &[u64]) -> Result<(), Refusal>
     if out.len() < size {
         return Err(Refusal::SheetNoRoom);
     }
-    write_records(&mut out[..end], side, entries);
-    close(&mut out[..size], records, side);
+    write_records(&mut out[..end], named, entries);
+    close(&mut out[..size], records, named);
     Ok(())
 }
 
 // How many whole good records, all of the first one's side, are at the front.
+#[tactic(auto, using(crate::proofs::Kept::kept_short, crate::proofs::Kept::kept_none, crate::proofs::Kept::kept_run))]
 fn kept_of(bytes: &[u8]) -> usize
     ensures { result ≡ kept bytes.now }
 {
@@ -314,8 +309,7 @@ fn copy_whole(
         return Err(Refusal::SheetNoRoom);
     }
     out[..size].copy_from_slice(file);
-    numbers[0] = size as u64;
-    numbers[1] = records as u64;
+    numbers.copy_from_slice(&[size as u64, records as u64]);
     Ok(())
 }
 
@@ -337,17 +331,17 @@ fn mend_run(numbers: &mut [u64], out: &mut [u8], file: &[u8], at: usize) -> Resu
     if out.len() < size {
         return Err(Refusal::SheetNoRoom);
     }
-    let side = file[at + 5] as u32;
+    let side = Side::of_number(file[at + 5] as u32).unwrap();
     out[..end].copy_from_slice(&file[..end]);
     close(&mut out[at..size], records, side);
-    numbers[0] = size as u64;
-    numbers[1] = records as u64;
+    numbers.copy_from_slice(&[size as u64, records as u64]);
     Ok(())
 }
 
 // For a host: mends a torn sheet. The audio ends at a place. Whole good records of one side from there on are
 // kept, and get a new trailer. A file that reads with its records at that place is copied. The numbers are
 // how many bytes were written, and how many records they have.
+#[tactic(auto, unfolding(crate::specs::Mended::mend_of))]
 pub fn mend(numbers: &mut [u64], out: &mut [u8], file: &[u8], place: u64) -> Result<(), Refusal>
     ensures { (told result leaving numbers.new leaving out.new)
         ≡ mend_of file.now place numbers.old out.old }

@@ -3,18 +3,20 @@ ghost use Rattle.std.specs.Prelude.{◌≡◌, ◌*◌, ◌≤◌, ◌<◌, ◌^
 ghost use Rattle.rules.specs.Leaf.{◌leaving◌};
 ghost use Rattle.rules.specs.Lists.{sum};
 ghost use Rattle.rules.specs.Refusal.{told};
+ghost use Rattle.sides.specs.Sides.{number_of};
 ghost use Rattle.sheet.specs.Sheet.{records_of};
 ghost use Rattle.sheet.specs.Rows.{records_laid, trailer_laid};
 ghost use Rattle.sheet.specs.Private.{Kinds};
 
 use rules::Refusal;
+use sides::Side;
 
 // Writes the records into a buffer that they fill, and returns the sum of their bytes.
-fn lay(out: &mut [u8], side: u32, entries: &[u64]) -> u64
-    requires { (length out.old ≡ 8 * length entries.now) × (side ≤ 1) × Kinds entries.now
+fn lay(out: &mut [u8], side: Side, entries: &[u64]) -> u64
+    requires { (length out.old ≡ 8 * length entries.now) × Kinds entries.now
         × (length entries.now < 2 ^ 29) }
-    ensures { (out.new ≡ records_of side entries.now)
-        × (result ≡ sum (records_of side entries.now)) × (result < 2 ^ 40) }
+    ensures { (out.new ≡ records_of (number_of side) entries.now)
+        × (result ≡ sum (records_of (number_of side) entries.now)) × (result < 2 ^ 40) }
 {
     crate::write_records(out, side, entries);
     let end = out.len();
@@ -42,9 +44,9 @@ pub fn records(
     if 536870911 < more || 536870911 - more < before {
         return Err(Refusal::SheetDistance);
     }
-    if 1 < side {
+    let Some(named) = Side::of_number(side) else {
         return Err(Refusal::SheetSide);
-    }
+    };
     if !crate::kinds_good(entries) {
         return Err(Refusal::SheetRecord);
     }
@@ -52,7 +54,7 @@ pub fn records(
     if out.len() < end {
         return Err(Refusal::SheetNoRoom);
     }
-    let sum = lay(&mut out[..end], side, entries);
+    let sum = lay(&mut out[..end], named, entries);
     numbers[0] = before + more;
     numbers[1] = (passed + sum) % 4294967296;
     Ok(())
@@ -65,13 +67,13 @@ pub fn trailer(out: &mut [u8], side: u32, count: u64, sum: u64) -> Result<(), Re
     if 536870911 < count {
         return Err(Refusal::SheetDistance);
     }
-    if 1 < side {
+    let Some(named) = Side::of_number(side) else {
         return Err(Refusal::SheetSide);
-    }
+    };
     if out.len() < 16 {
         return Err(Refusal::SheetNoRoom);
     }
-    let bytes = crate::trailer_of(count as usize, side, sum);
+    let bytes = crate::trailer_of(count as usize, named, sum);
     out[..16].copy_from_slice(&bytes);
     Ok(())
 }

@@ -1,6 +1,5 @@
 pub mod Fields
 pub mod Seals
-pub mod Steps
 pub mod Sealed
 pub mod Onward
 pub mod Enough

@@ -1,29 +1,23 @@
--- A seal laid into a buffer, and each answer of its writer and its reader. Assumes nothing.
-use Rattle.std.specs.Prelude.{Option, Some, None, ◌+◌, ◌-◌, ◌*◌, ◌≤◌, ◌<◌, ◌++◌, ◌≡◌}
+-- A seal laid into a buffer, and the answers of its reader. Assumes nothing.
+use Rattle.std.specs.Prelude.{Option, Some, ◌+◌, ◌-◌, ◌*◌, ◌≤◌, ◌++◌, ◌≡◌}
 use Rattle.rules.proofs.Common.{ℕ, List, [], refl, sym, ap, ◌∙◌, length, take}
 use Rattle.rules.proofs.Common.{drop, length-drop, length-append}
 use mathlib.Core.List.{append-nil}
 use native.Mathlib.Omega.{arith}
-use borrow.Author.Tests.{lt-ltb, le-ltb, eq-eqb, ne_eqb}
+use borrow.Author.Tests.{le-ltb, eq-eqb, ne_eqb}
 use lib.ListN.{drop_of_length-le}
 use lib.Seq.{take_at, drop_at}
-use Rattle.rules.specs.Leaf.{◌leaving◌}
-use Rattle.rules.proofs.Refusals.{leaves}
 use Rattle.checksum.specs.Checksum.{crc32}
-use Rattle.sides.specs.Sides.{of_number, of_letters}
+use Rattle.sides.specs.Sides.{of_letters}
 use Rattle.sides.specs.declared.Side.{Side}
 use Rattle.sheet.specs.Sheet.{four}
 use Rattle.sheet.specs.End.{from_four}
-use Rattle.wav.specs.Seal.{word_of, name, seal_faults, said, seal_of, seal_written, seal_read}
+use Rattle.wav.specs.Seal.{word_of, name, seal_faults, said, seal_of, seal_read}
 use Rattle.wav.specs.declared.seal.Word.{Word}
 use Rattle.wav.specs.declared.seal.Seal.{Seal}
 use Rattle.wav.specs.Seal.{Whole, Refused}
 
 module _ (w : Word) (s : List ℕ) where
-  pub at_51 : length s < 24 → Refused 51 ≡ seal_read w s
-  unfolding seal_read seal_faults
-  at_51 h = rw (lt-ltb (length s) 24 h)
-
   module _ (enough : 24 ≤ length s) {r k : ℕ} (rs : r ≡ from_four s) (ks : k ≡ word_of w) where
     pub at_51' : (r ≡ k → ⊥) → Refused 51 ≡ seal_read w s
     unfolding seal_read seal_faults
@@ -37,21 +31,6 @@ module _ (w : Word) (s : List ℕ) where
       module _ {n : ℕ} {m : Option Side} (whole : noted ≡ own) (names : n ≡ name s) (ms : m ≡ of_letters n) where
         told : of_letters (name s) ≡ m
         told = ap of_letters (sym names) ∙ sym ms
-
-        pub at_53 : None ≡ m → Refused 53 ≡ seal_read w s
-        unfolding seal_read seal_faults
-        at_53 e =
-            rw (
-              le-ltb (length s) 24 enough,
-              ← rs,
-              ← ks,
-              eq-eqb r k named,
-              ← ns,
-              ← os,
-              eq-eqb noted own whole,
-              told,
-              ← e,
-            )
 
         pub at_whole : {side : Side} {low high sum : ℕ} → low ≡ from_four (drop 8 s) → high ≡ from_four (drop 12 s)
             → sum ≡ from_four (drop 16 s) → Some side ≡ m
@@ -98,19 +77,3 @@ laid w x out size fs os ss =
       none,
       append-nil (four (crc32 0 (said w x))),
     )
-
-module _ (w : Word) (side long short : ℕ) (out : List ℕ) where
-  pub write_5 : (length out ≡ 24 → ⊥) → (5 leaving out) ≡ seal_written w side long short out
-  unfolding seal_written
-  write_5 h = rw (ne_eqb (length out) 24 h)
-
-  module _ (room : length out ≡ 24) {m : Option Side} (ms : m ≡ of_number side) where
-    pub write_53 : None ≡ m → (53 leaving out) ≡ seal_written w side long short out
-    unfolding seal_written
-    write_53 e = rw (eq-eqb (length out) 24 room, ← ms, ← e)
-
-    pub write_done : {known : Side} {after : List ℕ} → Some known ≡ m
-        → after ≡ seal_of w (record { side = known; long = long; short = short })
-        → (0 leaving after) ≡ seal_written w side long short out
-    unfolding seal_written
-    write_done e a = rw (eq-eqb (length out) 24 room, ← ms, ← e) (leaves a)

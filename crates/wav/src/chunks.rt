@@ -49,16 +49,11 @@ pub fn told(outcome: Result<Next, Refusal>) -> u32
 }
 
 // The first twelve bytes of a file.
+#[tactic(auto, unfolding(crate::specs::Chunks::front_of))]
 fn front(file: &[u8]) -> Result<(Next, Head), Refusal>
     ensures { step_as result ≡ front_of file.now }
 {
-    if file.len() < 12 {
-        return Err(Refusal::WavNoRiff);
-    }
-    if bytes::four_at(file, 0) != RIFF {
-        return Err(Refusal::WavNoRiff);
-    }
-    if bytes::four_at(file, 8) != WAVE {
+    if file.len() < 12 || bytes::four_at(file, 0) != RIFF || bytes::four_at(file, 8) != WAVE {
         return Err(Refusal::WavNoRiff);
     }
     Ok((
@@ -74,6 +69,7 @@ fn front(file: &[u8]) -> Result<(Next, Head), Refusal>
 }
 
 // The tag of a format. An extensible format has its tag at the beginning of its identifier.
+#[tactic(auto, unfolding(crate::specs::Chunks::tag_in))]
 fn tag_in(file: &[u8], size: u64) -> u64
     requires { (24 ≤ length file.now) × (26 ≤ size → 34 ≤ length file.now) }
     ensures { result ≡ tag_in size file.now }
@@ -90,6 +86,7 @@ fn tag_in(file: &[u8], size: u64) -> u64
 
 // The format: 16 or 24 for whole numbers of that many bits, 33 for whole numbers of 32 bits, 32 for floats, 0
 // for any other.
+#[tactic(auto, unfolding(crate::specs::Chunks::format_of))]
 fn format_of(tag: u64, bits: u64) -> u64
     ensures { (result ≡ format_of tag bits) × (result ≤ 33) }
 {
@@ -117,6 +114,7 @@ fn pass(size: u64, head: Head) -> Head
 }
 
 // The chunk `fmt ` of this size, at a place below 2^63.
+#[tactic(auto, unfolding(crate::specs::Chunks::formatted, crate::specs::Chunks::format_faults))]
 fn format(file: &[u8], size: u64, head: Head) -> Result<(Next, Head), Refusal>
     requires { (8 ≤ length file.now) × (size < 2 ^ 32) × (head.place < 2 ^ 63) }
     ensures { step_as result ≡ formatted file.now size head }
@@ -132,10 +130,7 @@ fn format(file: &[u8], size: u64, head: Head) -> Result<(Next, Head), Refusal>
         return Err(Refusal::WavFormat);
     }
     let channels = bytes::two_at(file, 10);
-    if channels == 0 {
-        return Err(Refusal::WavChannels);
-    }
-    if 64 < channels {
+    if channels == 0 || 64 < channels {
         return Err(Refusal::WavChannels);
     }
     if bytes::two_at(file, 20) != channels * (format / 8) {
@@ -153,13 +148,11 @@ fn format(file: &[u8], size: u64, head: Head) -> Result<(Next, Head), Refusal>
 }
 
 // A chunk, or where the audio starts.
+#[tactic(auto, unfolding(crate::specs::Chunks::chunk_of))]
 fn chunk(file: &[u8], head: Head) -> Result<(Next, Head), Refusal>
     ensures { step_as result ≡ chunk_of file.now head }
 {
-    if file.len() < 8 {
-        return Err(Refusal::WavEnds);
-    }
-    if 9223372036854775807 < head.place {
+    if file.len() < 8 || 9223372036854775807 < head.place {
         return Err(Refusal::WavEnds);
     }
     let name = bytes::four_at(file, 0);
@@ -177,10 +170,7 @@ fn chunk(file: &[u8], head: Head) -> Result<(Next, Head), Refusal>
         };
         return Ok((Next::Found, audio));
     }
-    if name != FMT {
-        return Ok((Next::More, pass(size, head)));
-    }
-    if head.format != 0 {
+    if name != FMT || head.format != 0 {
         return Ok((Next::More, pass(size, head)));
     }
     format(file, size, head)
@@ -188,6 +178,7 @@ fn chunk(file: &[u8], head: Head) -> Result<(Next, Head), Refusal>
 
 // The next step of a reading. The bytes that are lent are the file's from the reading's place on: 34, or as
 // many as there are.
+#[tactic(auto, unfolding(crate::specs::Chunks::step_of))]
 pub fn go_on(file: &[u8], head: Head) -> Result<(Next, Head), Refusal>
     ensures { step_as result ≡ step_of file.now head }
 {
@@ -201,15 +192,12 @@ fn tell(numbers: &mut [u64], head: Head)
     requires { length numbers.old ≡ 5 }
     ensures { numbers.new ≡ head_numbers head }
 {
-    numbers[0] = head.place;
-    numbers[1] = head.format;
-    numbers[2] = head.channels;
-    numbers[3] = head.rate;
-    numbers[4] = head.size;
+    numbers.copy_from_slice(&[head.place, head.format, head.channels, head.rate, head.size]);
 }
 
 // For a host: the next step of a reading, in numbers: place, format, channels, rate and size, all 0 at first. A buffer
 // of other than five numbers is refused as of a wrong length.
+#[tactic(auto, unfolding(crate::specs::Chunks::step_told))]
 pub fn read(numbers: &mut [u64], file: &[u8]) -> Result<Next, Refusal>
     ensures { (next_told result leaving numbers.new) ≡ step_told file.now numbers.old }
 {

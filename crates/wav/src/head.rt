@@ -30,6 +30,7 @@ pub fn head_of(rate: u32, size: u32, behind: u32) -> [u8; 44]
 
 // The head for so many bytes of audio at a rate, with so many bytes of chunks after them. 4,294,967,295 bytes
 // of audio mean: to the end of the file. A buffer of other than 44 bytes is refused.
+#[tactic(auto, unfolding(crate::specs::Head::head_written))]
 pub fn write(out: &mut [u8], rate: u32, size: u32, behind: u32) -> Result<(), Refusal>
     ensures { (told result leaving out.new) ≡ head_written rate size behind out.old }
 {

@@ -29,6 +29,7 @@ pub struct Seal {
 }
 
 // Four letters as a number, least significant byte first.
+// Stays: a `match`, since the numbers are the letters that a file has; one written beside each variant is no plainer.
 fn word_of(word: Word) -> u32
     ensures { result ≡ word_of word }
 {
@@ -51,6 +52,7 @@ fn twenty(letters: u32, name: u32, long: u64, short: u32) -> [u8; 20]
 }
 
 // The seal without its own checksum.
+#[tactic(auto, unfolding(crate::specs::Seal::said))]
 fn said_by(word: Word, seal: Seal) -> [u8; 20]
     ensures { result ≡ said word seal }
 {
@@ -58,6 +60,7 @@ fn said_by(word: Word, seal: Seal) -> [u8; 20]
     twenty(word_of(word), side.letters(), seal.long, seal.short)
 }
 
+#[tactic(auto, using(crate::proofs::Seals::laid))]
 fn lay(out: &mut [u8], word: Word, seal: Seal)
     requires { length out.old ≡ 24 }
     ensures { out.new ≡ seal_of word seal }
@@ -78,6 +81,7 @@ pub fn of(word: Word, seal: Seal) -> [u8; 24]
 }
 
 // For a host: a seal, of a side by its number. Refused are another length than 24, and a number that means no side.
+#[tactic(auto, unfolding(crate::specs::Seal::seal_written))]
 pub fn write(out: &mut [u8], word: Word, side: u32, long: u64, short: u32) -> Result<(), Refusal>
     ensures { (told result leaving out.new) ≡ seal_written word side long short out.old }
 {
@@ -92,13 +96,11 @@ pub fn write(out: &mut [u8], word: Word, side: u32, long: u64, short: u32) -> Re
 }
 
 // The seal with this word, at the front of some bytes.
+#[tactic(auto, unfolding(crate::specs::Seal::seal_read, crate::specs::Seal::seal_faults))]
 pub fn read(word: Word, file: &[u8]) -> Result<Seal, Refusal>
     ensures { seal_as result ≡ seal_read word file.now }
 {
-    if file.len() < 24 {
-        return Err(Refusal::SealNone);
-    }
-    if bytes::four_at(file, 0) != word_of(word) as u64 {
+    if file.len() < 24 || bytes::four_at(file, 0) != word_of(word) as u64 {
         return Err(Refusal::SealNone);
     }
     if bytes::four_at(file, 20) != checksum::crc32(0, &file[..20]) as u64 {
@@ -114,6 +116,7 @@ pub fn read(word: Word, file: &[u8]) -> Result<Seal, Refusal>
 }
 
 // For a host: the side's number, the long number and the short one. Another length than three is refused.
+#[tactic(auto, unfolding(crate::specs::Seal::seal_summary))]
 pub fn summary(numbers: &mut [u64], word: Word, file: &[u8]) -> Result<(), Refusal>
     ensures { (told result leaving numbers.new) ≡ seal_summary word file.now numbers.old }
 {
@@ -122,8 +125,6 @@ pub fn summary(numbers: &mut [u64], word: Word, file: &[u8]) -> Result<(), Refus
     }
     let seal = read(word, file)?;
     let side = seal.side;
-    numbers[0] = side.number() as u64;
-    numbers[1] = seal.long;
-    numbers[2] = seal.short as u64;
+    numbers.copy_from_slice(&[side.number() as u64, seal.long, seal.short as u64]);
     Ok(())
 }

@@ -1,7 +1,7 @@
 -- What is known of a call that none of the tests refused.
---     Frame, frame-accepted, frame-known  a frame
---     Take, take-accepted, take-known  a take; fits-sizes, its numbers
---     good-bad, good-rest, good-both   samples behind others: whether all are good; logs-length, of our logarithms
+--     Frame, frame_accepted, frame_known  a frame
+--     Take, take_accepted, take_known  a take; fits_sizes, its numbers
+--     good_bad, good_rest, good_both   samples behind others: whether all are good; logs_length, of our logarithms
 -- Assumes nothing.
 use Rattle.std.specs.Prelude.{◌*◌, ◌≤◌, ◌&&◌, ◌∷◌, ◌++◌, ◌≡◌}
 use Rattle.rules.proofs.Common.{ℕ, Bool, true, false, not, true≢false, false≢true, List, []}

@@ -1,8 +1,8 @@
 -- A call after its table of refusals, as the code has it.
---     by-reply                 what holds of a refusal, and of what is done on the share, holds of the call
+--     by_reply                 what holds of a refusal, and of what is done on the share, holds of the call
 --     lent, lent_is            the side's share, as the code lends it
---     refused, done-there      a call that is refused, and one that is not
---     frame-ready, take-ready  what the code asks of a frame and of a dictation
+--     refused, done_there      a call that is refused, and one that is not
+--     frame_ready, take_ready  what the code asks of a frame and of a dictation
 -- Assumes nothing.
 use Rattle.std.specs.Prelude.{◌+◌, ◌-◌, ◌*◌, ◌≡◌}
 use Rattle.rules.proofs.Common.{ℕ, Bool, true, false, cond, List, refl, ap, length, Float}

@@ -1,7 +1,7 @@
 -- A take and the desk's own calls.
 --     dictates, take_row            a piece that is resumed to its end with our logarithms
---     take-fills                    how much it hands out
---     answers-length, answers-both  the answers of frames in a row
+--     take_fills                    how much it hands out
+--     answers_length, answers_both  the answers of frames in a row
 -- Assumes nothing.
 use Rattle.std.specs.Prelude.{◌*◌, ◌∷◌, ◌++◌, ◌≡◌}
 use Rattle.rules.proofs.Common.{ℕ, zero, suc, Bool, true, false, cond, false≢true, List, [], refl}

@@ -1,9 +1,9 @@
 -- What a frame and a take give a host that hands their record back as numbers.
---     frame_small, take-small      a refused model's number and layer are small
---     frame-range, take_range      where it is done, the record that it was given and the one that it gives back are in
+--     frame_small, take_small      a refused model's number and layer are small
+--     frame_range, take_range      where it is done, the record that it was given and the one that it gives back are in
 --                                  range
---     frame-buffers                a frame writes to its buffer, or is refused and writes to none
---     frame-no-out                 a frame with no place for its samples is refused
+--     frame_buffers                a frame writes to its buffer, or is refused and writes to none
+--     frame_no_out                 a frame with no place for its samples is refused
 --     take_by                      what holds of a take, by its tests
 -- Assumes nothing.
 use Rattle.std.specs.Prelude.{◌*◌, ◌<◌, ◌∷◌, ◌++◌, ◌≡◌}

@@ -13,6 +13,7 @@ use frame::Cause;
 use rules::Refusal;
 
 // The refusal of a frame, if there is one.
+#[tactic(auto, using(desk::proofs::Results::same_error), unfolding(crate::specs::Whole::frame_reply))]
 pub(crate) fn frame_reply(
     side: Bench,
     rec: Record,

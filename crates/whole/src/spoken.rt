@@ -1,5 +1,7 @@
 // Dictation on one share: for each frame a first half, our logarithms and a second half; the rest of the
 // samples waits. The callers have tested everything that could refuse it.
+// Stays: the share's length and the limit of `waiting` as facts. They are parts of `Fit` and `Ready`, which the callers
+// have; an array in their place needs a conversion in both callers, and is no plainer.
 ghost use Rattle.std.specs.Prelude.{Ok, true, [], ◌∷◌, ◌++◌, ◌≡◌, ◌+◌, ◌*◌, ◌≤◌, length, drop};
 ghost use Rattle.frame.specs.Effect.{Worked};
 ghost use Rattle.frame.specs.Reply.{Done};
@@ -38,6 +40,8 @@ pub(crate) fn process_frame(
     desk::told_second(desk::holding(3, rec, 0, 0, 0), outcome).unwrap()
 }
 
+// Stays: the test for frame 0. Without it each place is the lesser of two numbers or a difference that stops at 0,
+// which is no plainer: samples that wait are in frame 0 alone.
 // `out` becomes the samples from frame j on, of those that wait followed by the piece's, as far as it has
 // room, filled up with zeros.
 fn gather(out: &mut [f32], share: &[f32], waiting: usize, piece: &[f32], j: usize)
@@ -57,6 +61,8 @@ fn gather(out: &mut [f32], share: &[f32], waiting: usize, piece: &[f32], j: usiz
 }
 
 // Frame j, counted from 0, of the samples that wait followed by the piece's, and its three answers.
+// Stays: eight parameters. `dictate` alone calls it, and a struct of borrowed parts is taken apart here at once, so
+// it is no plainer.
 fn step(
     share: &mut [f32],
     rec: Record,
@@ -97,6 +103,7 @@ fn step(
 const TO: usize = PART + 479;
 
 // Lets the samples after so many frames wait.
+#[tactic(auto, using(rules::proofs::Refusals::left), unfolding(rules::specs::Place::get, rules::specs::Place::put))]
 fn settle(share: &mut [f32], waiting: usize, piece: &[f32], frames: usize)
     requires { (length share.old ≡ 6144) × (waiting ≤ 479) × (length piece.now ≤ 4096)
         × (480 * frames ≤ waiting + length piece.now) }
@@ -110,6 +117,7 @@ fn settle(share: &mut [f32], waiting: usize, piece: &[f32], frames: usize)
 }
 
 // All frames that the samples complete, one after another. The rest waits.
+// Stays: the loop counts. Frame j is cut out of two slices in a row, so that there is no slice to go over.
 pub(crate) fn dictate(
     share: &mut [f32],
     rec: Record,

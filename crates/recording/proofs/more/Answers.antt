@@ -1,9 +1,9 @@
 use Rattle.std.specs.Prelude.{◌-◌}
 use Rattle.rules.proofs.Common.{sym, ◌∙◌, length, drop, length-drop}
-use borrow.Author.Tests.{eqb-true, eqb-false}
+use borrow.Author.Tests.{eqb-false}
 use lib.Seq.{take_all}
 use native.Mathlib.Omega.{arith}
-use Rattle.recording.proofs.Running.{run_none, run_next}
+use Rattle.recording.proofs.Running.{run_next}
 use Rattle.recording.proofs.more.Goals as goal
 
 pub loop-rest-preserved : goal.loop-rest-preserved
@@ -19,7 +19,3 @@ loop-rest-preserved c =
       ← c.on.ensures,
       ← c.step-now.ensures,
     )
-
-pub returns : goal.returns
-returns c =
-    run_none _ _ (eqb-true _ 0 (sym c.is_empty.ensures ∙ c.loop-rest-test.false)) ∙ sym c.loop-rest.invariant

@@ -1,10 +1,7 @@
-use Rattle.std.specs.Prelude.{◌∷◌}
-use Rattle.rules.proofs.Common.{[]}
 use native.Mathlib.Omega.{arith}
 use borrow.Author.Tests.{eq-eqb}
 use Rattle.std.proofs.lemmas.Result.{err_from_is_err_and}
 use Rattle.rules.proofs.Refusals.{leaves}
-use Rattle.rules.proofs.Places.{all_stored}
 use Rattle.rules.proofs.Tests.{tests}
 use Rattle.sheet.specs.Asked.{entry_at}
 use Rattle.sheet.proofs.Halves.{read_within, entry_refused, entry_none, entry_found}
@@ -37,10 +34,9 @@ entry_of-requires c = omega (arith, read_within _ c.in_ok-found.ensures)
 pub returns : goal.returns
 unfolding entry_at
 returns c =
-    let one = c.if-entry-ne1.false in
     rw (
-      eq-eqb _ 1 one,
+      eq-eqb _ 1 c.if-entry-ne1.false,
       entry_found _ _ _ c.in_ok-found.ensures c.if-found-index.false,
       ← c.entry_of.ensures,
     )
-    (leaves (all_stored c.args.entry.now (c.entry_of.result ∷ []) one))
+    (leaves c.copy_from_slice.ensures.after)

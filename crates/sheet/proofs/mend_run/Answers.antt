@@ -1,14 +1,14 @@
-use Rattle.std.specs.Prelude.{◌-◌, ◌+◌, ◌*◌, ◌≤◌, ◌∷◌, ◌++◌, ◌≡◌}
-use Rattle.rules.proofs.Common.{ℕ, List, [], sym, ap, ◌∙◌, length, take, drop, length-set}
+use Rattle.std.specs.Prelude.{◌-◌, ◌+◌, ◌*◌, ◌≤◌, ◌++◌, ◌≡◌}
+use Rattle.rules.proofs.Common.{ℕ, List, sym, ap, ◌∙◌, length, take, drop}
 use Rattle.rules.proofs.Common.{length-take}
 use native.Mathlib.Omega.{arith}
 use borrow.Author.Tests.{lt-ltb, le-ltb, eq-eqb, ne_eqb}
 use lib.Seq.{get_or-drop}
 use Rattle.rules.proofs.Refusals.{leave_both}
-use Rattle.rules.proofs.Places.{all_stored}
 use Rattle.sheet.specs.Sheet.{sheet_bytes}
 use Rattle.sheet.specs.Mended.{kept, torn}
 use Rattle.sheet.proofs.Kept.{kept_known}
+use Rattle.sheet.proofs.Sided.{named, known}
 use Rattle.sheet.proofs.Mending.{by_run, part_kept, size_anew, run_within, part_size, lay_anew}
 use Rattle.sheet.proofs.mend_run.Goals as goal
 
@@ -62,13 +62,13 @@ bounds-file-at c = omega (
   c.if-records-eq0.false,
 )
 
-pub overflow_cast-side : goal.overflow_cast-side
-overflow_cast-side c =
-    omega (
-      arith,
-      c.shared_slice_known-2-1.given
-          (c.args.at + 5),
-    )
+pub unwrap-side-requires : goal.unwrap-side-requires
+unwrap-side-requires c =
+    let s = c.args.file.now in
+    known _ c.of_number.ensures
+    (rw (get_or-drop c.args.at s 5 0) at
+    (kept_known (drop c.args.at s)
+    (some_kept s c.args.at _ c.requires.1 c.kept_of-records.ensures c.if-records-eq0.false)))
 
 pub slice_bounds-copy_from_slice-end-2 : goal.slice_bounds-copy_from_slice-end-2
 slice_bounds-copy_from_slice-end-2 c = simp length-take (omega arith)
@@ -89,25 +89,13 @@ copy_from_slice-requires c =
 
 pub close-requires : goal.close-requires
 close-requires c =
-    let s = c.args.file.now in
-    let known = rw (get_or-drop c.args.at s 5 0) at
-    (kept_known (drop c.args.at s)
-    (some_kept c.args.file.now c.args.at _ c.requires.1 c.kept_of-records.ensures c.if-records-eq0.false)) in (
+    let s = c.args.file.now in (
       part_size s c.args.at c.requires.1 (kept_there c.args.file.now c.args.at _ c.requires.1 c.kept_of-records.ensures)
           c.args.out.now
           c.copy_from_slice.ensures.after
           c.if-out-size.false,
       omega (arith, c.if-records-gt536870911.false),
-      omega (arith, known),
     )
-
-pub bounds-numbers-1 : goal.bounds-numbers-1
-bounds-numbers-1 c =
-    simp length-set
-    (omega (
-      arith,
-      c.requires.0,
-    ))
 
 pub returns : goal.returns
 returns c =
@@ -122,10 +110,9 @@ returns c =
     c.if-records-gt536870911.false in
     let room : length bytes ≤ length out =
     rw (size c.args.file.now c.args.at _ c.requires.1 c.kept_of-records.ensures) c.if-out-size.false in
-    let told = all_stored c.args.numbers.now ((at + 8 * c.kept_of-records.result + 16) ∷ c.kept_of-records.result ∷ [])
-    c.requires.0 in
     let laid = lay_anew s at c.requires.1 (kept_there c.args.file.now c.args.at _ c.requires.1
-    c.kept_of-records.ensures) out (λ i. omega (arith, c.type_inv.file i)) (sym (get_or-drop at s 5 0))
+    c.kept_of-records.ensures) out (λ i. omega (arith, c.type_inv.file i))
+    (named _ _ c.of_number.ensures c.unwrap-side.ensures ∙ sym (get_or-drop at s 5 0))
     c.copy_from_slice.ensures.after c.close.ensures in
     rw (
       ← by_run c.args.file.now c.args.at c.args.numbers.now c.args.out.now c.requires.0 c.requires.1 c.requires.2,
@@ -134,4 +121,5 @@ returns c =
       le-ltb (length out) (length bytes) room,
       size c.args.file.now c.args.at _ c.requires.1 c.kept_of-records.ensures,
     )
-    (leave_both (told ∙ rw (← kept_there c.args.file.now c.args.at _ c.requires.1 c.kept_of-records.ensures)) laid)
+    (leave_both (c.copy_from_slice-2.ensures.after
+    ∙ rw (← kept_there c.args.file.now c.args.at _ c.requires.1 c.kept_of-records.ensures)) laid)

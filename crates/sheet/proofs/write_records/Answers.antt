@@ -9,7 +9,7 @@ pub loop-i-init : goal.loop-i-init
 loop-i-init c = (omega arith, refl, c.requires.0, refl)
 
 pub record_of-bytes-requires : goal.record_of-bytes-requires
-record_of-bytes-requires c = (c.requires.1, c.requires.2 c.loop-i.i)
+record_of-bytes-requires c = c.requires.1 c.loop-i.i
 
 pub copy_from_slice-requires : goal.copy_from_slice-requires
 copy_from_slice-requires c =

@@ -2,19 +2,8 @@
 use native.Mathlib.Nat.{mul-pos}
 use native.Mathlib.Omega.{arith}
 use Rattle.pcm.proofs.Patterns.{block_small}
-use Rattle.feed.proofs.Blocks.{no_width, too_many, no_channel, uneven, whole}
+use Rattle.feed.proofs.Blocks.{uneven, whole}
 use Rattle.feed.proofs.refusals.samples_in.Goals as goal
-
-pub returns-then-width-eq0 : goal.returns-then-width-eq0
-returns-then-width-eq0 c = no_width _ _ _ _ _ c.width_of-width.ensures c.if-width-eq0.true
-
-pub returns-then-channels-gt65535 : goal.returns-then-channels-gt65535
-returns-then-channels-gt65535 c = too_many _ _ _ _ _ c.width_of-width.ensures (omega arith) (omega arith)
-
-pub returns-then-channel-channels : goal.returns-then-channel-channels
-returns-then-channel-channels c =
-    no_channel _ _ _ _ _ c.width_of-width.ensures (omega arith) (omega arith)
-    (omega arith)
 
 pub overflow_mul-block : goal.overflow_mul-block
 overflow_mul-block c =

@@ -11,8 +11,8 @@ slice_bounds-total-end-2 c = simp length-take (omega arith)
 pub total-requires : goal.total-requires
 total-requires c =
     let size = ap length c.write_records.ensures
-    ∙ length_records c.args.side c.args.entries.now in
-    simp length-take (omega (arith, c.requires.3))
+    ∙ length_records _ c.args.entries.now in
+    simp length-take (omega (arith, c.requires.2))
 
 pub returns : goal.returns
 returns c =

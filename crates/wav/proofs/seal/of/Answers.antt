@@ -1,4 +1,0 @@
-use Rattle.wav.proofs.seal.of.Goals as goal
-
-pub returns : goal.returns
-returns c = c.lay.ensures
