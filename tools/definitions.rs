@@ -150,17 +150,29 @@ fn blocks(text: &str) -> Vec<Block> {
     blocks
 }
 
-/// What an `impl` of a trait says of itself, as `ghost try_from_gives = { .. };`.
-fn is_ghost_member(line: &str) -> bool {
-    line.starts_with("ghost ") && !line.starts_with("ghost use ")
+/// Whether a line begins an `impl` of a trait for a public type of this text.
+fn is_for_a_public_type(line: &str, text: &str) -> bool {
+    let Some((_, of)) = line.split_once(" for ").filter(|_| line.starts_with("impl")) else { return false };
+    let name = of.split(|c: char| !c.is_alphanumeric()).next().unwrap();
+    text.lines().any(|line| {
+        let behind = line.strip_prefix("pub struct ").or(line.strip_prefix("pub enum "));
+        behind.is_some_and(|behind| behind.split(|c: char| !c.is_alphanumeric()).next() == Some(name))
+    })
 }
 
-/// The contracts of the public functions of a source file.
+/// What an `impl` of a trait says of itself, as `ghost try_from_gives = { .. };`. A ghost field of a struct, as
+/// `ghost all: { .. },`, is none.
+fn is_ghost_member(line: &str) -> bool {
+    line.starts_with("ghost ") && line.contains(" = {")
+}
+
+/// The contracts of the public functions of a source file, and what it says of its public types' impls of traits.
 fn contracts(text: &str) -> String {
     let mut found = String::new();
-    let mut head = false;
+    let (mut head, mut of_public) = (false, false);
     for line in text.lines() {
         let start = line.trim_start();
+        of_public = line != "}" && (of_public || is_for_a_public_type(line, text));
         if start.starts_with("pub fn ") || start.starts_with("pub extern ") {
             head = true;
             // the function's own name is no citation of a definition that has the same name
@@ -168,7 +180,7 @@ fn contracts(text: &str) -> String {
             found.push_str(before.split("fn ").next().unwrap_or(""));
             found.push_str(behind);
             found.push('\n');
-        } else if head || is_ghost_member(start) {
+        } else if head || of_public && is_ghost_member(start) {
             found.push_str(line);
             found.push('\n');
         }

@@ -94,10 +94,17 @@ fn functions_of(file: &Path) -> Vec<Function> {
 
 /// The parameters of a list: it is parted at the commas that stand within no brackets.
 fn parted(list: &str) -> Vec<&str> {
-    let mut depth = 0;
+    let (mut depth, mut square, mut before) = (0, 0, ' ');
     let is_between = |letter: char| {
-        depth += i32::from("(<[".contains(letter)) - i32::from(")>]".contains(letter));
-        letter == ',' && depth == 0
+        square += i32::from(letter == '[') - i32::from(letter == ']');
+        // the > of an arrow, as in `impl Fn(f32) -> f32`, closes nothing; in a length, as `[f32; 8 >> 1]`, < and > are
+        // no brackets
+        let counts = "()".contains(letter) || ("<>".contains(letter) && square == 0 && (before, letter) != ('-', '>'));
+        if counts {
+            depth += if "(<".contains(letter) { 1 } else { -1 };
+        }
+        before = letter;
+        letter == ',' && depth == 0 && square == 0
     };
     list.split(is_between).collect()
 }
@@ -168,12 +175,34 @@ fn excepted(promises: &str) -> BTreeSet<String> {
         .collect()
 }
 
+/// The impls of traits in a source file that do not say what their functions give. Such a function has no `pub` and
+/// takes its contract from the trait, so that an impl says it in a ghost member, as `ghost from_gives = { .. };`.
+fn unsaid(file: &Path) -> Vec<String> {
+    let text = read(file.to_str().unwrap());
+    let mut found = Vec::new();
+    let mut lines = text.lines();
+    while let Some(line) = lines.next() {
+        if !(line.starts_with("impl") && line.contains(" for ")) {
+            continue;
+        }
+        let members: Vec<&str> = lines.by_ref().take_while(|member| *member != "}").map(str::trim_start).collect();
+        let gives = |member: &&str| member.starts_with("ghost ") && member.contains("_gives = {");
+        if members.iter().any(|member| member.starts_with("fn ")) && !members.iter().any(gives) {
+            let head = line.trim_end_matches(" {");
+            found.push(format!("{}: `{head}` does not say what its functions give", file.display()));
+        }
+    }
+    found
+}
+
 fn contracts(functions: &[Function]) -> Vec<String> {
     let excepted = excepted(&read("docs/PROMISES.md"));
     let each = functions.iter().flat_map(|function| {
         faults(function, &excepted).into_iter().map(|fault| format!("{}: {fault}", function.place()))
     });
-    each.collect()
+    let sources = fs::read_dir("crates").expect("crates/").flatten().map(|entry| entry.path().join("src"));
+    let sources: BTreeSet<PathBuf> = sources.flat_map(|folder| files(&folder)).collect();
+    each.chain(sources.iter().flat_map(|file| unsaid(file))).collect()
 }
 
 // ---- calls of the surface

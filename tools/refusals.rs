@@ -103,9 +103,13 @@ fn is_no_variant(number: u32) -> bool {
 fn unlike_the_enum(rows: &[Refusal]) -> Vec<String> {
     const ENUM: &str = "crates/rules/src/refusal.rt";
     let text = read(Path::new(ENUM));
-    let variants = text.lines().filter_map(|line| line.trim().strip_suffix(',')?.split_once(" = "));
+    let body = text.split_once("pub enum Refusal {").and_then(|(_, after)| after.split("\n}").next());
+    let lines = body.expect("the enum Refusal").lines().map(|line| line.trim().trim_end_matches(','));
+    // a variant without a number of its own counts as 0, which is no refusal's
+    let variants = lines.filter(|line| !line.is_empty() && !line.starts_with("//"));
+    let variants = variants.map(|variant| variant.split_once(" = ").unwrap_or((variant, "0")));
     let in_code: BTreeSet<(String, u32)> =
-        variants.filter_map(|(name, number)| Some((constant(name), number.parse().ok()?))).collect();
+        variants.map(|(name, number)| (constant(name), number.parse().expect("a variant's number"))).collect();
     let in_page = rows.iter().filter(|row| !is_no_variant(row.number));
     let in_page: BTreeSet<(String, u32)> = in_page.map(|row| (row.constant.clone(), row.number)).collect();
     let differing = in_code.symmetric_difference(&in_page);

@@ -129,6 +129,73 @@ RATTLE
 no_ensures() { sneak; }
 store_not_told() { sneak 'ensures { result ≡ 0 }'; }
 no_case_of_call() { sneak 'ensures { (result ≡ 0) × (store.new ≡ sneaked store.old) }'; }
+# what stands behind a parameter that is a function is seen as well
+behind_a_function() {
+    own crates/checksum/src/lib.rt
+    cat >>crates/checksum/src/lib.rt <<'RATTLE'
+
+// Turns each number.
+pub fn turn_each(turn: impl Fn(f32) -> f32, xs: &mut [f32]) -> u32
+    ensures { result ≡ 0 }
+{
+    0
+}
+RATTLE
+}
+# an impl of a trait, whose functions have no contract of their own, and which says nothing of them
+impl_without_promise() {
+    own crates/checksum/src/lib.rt
+    cat >>crates/checksum/src/lib.rt <<'RATTLE'
+
+pub struct Sum(u32);
+
+impl From<u32> for Sum {
+    fn from(sum: u32) -> Sum {
+        Sum(sum)
+    }
+}
+RATTLE
+}
+# the same behind a length that is calculated
+behind_a_length() {
+    own crates/checksum/src/lib.rt
+    cat >>crates/checksum/src/lib.rt <<'RATTLE'
+
+// Turns each number.
+pub fn turn_each(by: [f32; 8 >> 1], xs: &mut [f32]) -> u32
+    ensures { result ≡ 0 }
+{
+    0
+}
+RATTLE
+}
+# a definition that nothing but an impl of a private type speaks of
+cited_for_a_private_type() {
+    own crates/checksum/specs/Checksum.antt
+    printf '\nabbrev pub lonely : ℕ → ℕ\nlonely n = n\n' >>crates/checksum/specs/Checksum.antt
+    own crates/checksum/src/lib.rt
+    sed -i '0,/^ghost use /s//ghost use Rattle.checksum.specs.Checksum.{lonely};\n&/' crates/checksum/src/lib.rt
+    cat >>crates/checksum/src/lib.rt <<'RATTLE'
+
+struct Sum(u32);
+
+impl From<u32> for Sum {
+    ghost from_gives = { λ n sum. lonely n ≡ n };
+
+    fn from(sum: u32) -> Sum {
+        Sum(sum)
+    }
+}
+RATTLE
+}
+# a definition that nothing but a ghost field of a private struct speaks of
+cited_in_a_ghost_field() {
+    own crates/checksum/specs/Checksum.antt
+    printf '\nabbrev pub lonely : ℕ → ℕ\nlonely n = n\n' >>crates/checksum/specs/Checksum.antt
+    own crates/checksum/src/lib.rt
+    sed -i '0,/^ghost use /s//ghost use Rattle.checksum.specs.Checksum.{lonely};\n&/' crates/checksum/src/lib.rt
+    printf '\nstruct Kept {\n    sum: u32,\n    ghost kept: { lonely sum ≡ sum },\n}\n' >>crates/checksum/src/lib.rt
+}
 a_requires() {
     local promise='    ensures { result ≡ crc32 before bytes.now }'
     replace crates/checksum/src/lib.rt "$promise" "    requires { before < 7 }"$'\n'"$promise"
@@ -142,6 +209,7 @@ number_not_listed() { sed -i '/^| 53 |/d' docs/REFUSALS.md; }
 box_says_otherwise() {
     replace "$(grep -rl 'a layer has no neurons' host/src)" 'a layer has no neurons' 'a layer is empty'
 }
+one_more_in_the_enum() { replace crates/rules/src/refusal.rt '    Closed = 3,' '    Closed = 3,'$'\n''    Opened,'; }
 another_number_in_the_enum() { replace crates/rules/src/refusal.rt 'Closed = 3,' 'Closed = 10,'; }
 other_constant() { replace docs/REFUSALS.md '`TUPPENCE_CLOSED`' '`TUPPENCE_SHUT`'; }
 
@@ -199,11 +267,17 @@ quick() {
     trial no_ensures 'tuppence_sneak: it has no `ensures`' no_ensures public contracts
     trial store_not_told 'does not say what `store: &mut [f32]` holds at exit' store_not_told public contracts
     trial no_case_of_call 'tuppence_sneak: it takes a store or a record and is not a case' no_case_of_call public calls
+    trial behind_a_function 'does not say what `xs: &mut [f32]` holds at exit' behind_a_function public contracts
+    trial impl_without_promise '`impl From<u32> for Sum` does not say' impl_without_promise public contracts
+    trial behind_a_length 'does not say what `xs: &mut [f32]` holds at exit' behind_a_length public contracts
+    trial cited_for_a_private_type 'lonely' cited_for_a_private_type definitions uncited
+    trial cited_in_a_ghost_field 'lonely' cited_in_a_ghost_field definitions uncited
     trial a_requires 'checksum::crc32: it has a `requires`' a_requires public contracts
     trial not_listed 'does not list `crc32(before, bytes)`' not_listed public listed
     trial other_words 'of 15' other_words refusals
     trial number_not_listed 'refuses with 53' number_not_listed refusals
     trial another_number_in_the_enum 'differ in TUPPENCE_CLOSED, 3' another_number_in_the_enum refusals
+    trial one_more_in_the_enum 'differ in TUPPENCE_OPENED, 0' one_more_in_the_enum refusals
     trial box_says_otherwise 'of 15' box_says_otherwise refusals
     trial other_constant 'differ' other_constant header
     trial long_line 'shorten the new ones' long_line columns

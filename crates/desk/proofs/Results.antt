@@ -1,4 +1,5 @@
--- What is done passes, and what is refused does not. Assumes nothing.
+-- What is done passes, and what is refused does not; so what the second half gives is `told_second`, also where the
+-- reason for a refusal is none of the desk's. Assumes nothing.
 use Rattle.std.specs.Prelude.{◌≡◌, Result, Ok, Err, IfOk, IsOk, IsErrAnd}
 use Rattle.rules.proofs.Common.{true, false, false≢true, refl, sym, ap, ◌∙◌}
 use Rattle.frame.specs.Reply.{passed}
@@ -9,6 +10,7 @@ use Rattle.frame.specs.declared.answer.Cause.{Cause}
 use Rattle.frame.specs.declared.answer.Cause.TheVariants as cause
 use Rattle.desk.specs.Answer.{answer_of}
 use Rattle.desk.specs.declared.Record.{Record}
+use Rattle.desk.specs.Laws.{SecondTold, SecondAnswered}
 
 pub done_passes : (told : Told) → passed (reply_told told) ≡ true
 done_passes tells.Done = refl
@@ -35,6 +37,14 @@ pub is_answered : (rec : Record) (result : Result (Told × Record) Cause)
     → passed (answer_of rec result).reply ≡ true → IsOk result
 is_answered rec (Ok (told, next)) p = refl
 is_answered rec (Err why) p = absurd (false≢true (sym (refused_fails why) ∙ p))
+
+pub second_told : SecondTold
+second_told _ reads fails rec (Ok told) = rw (done_passes told) refl
+second_told _ reads fails rec (Err why) = rw (fails why) refl
+
+pub second_answered : SecondAnswered
+second_answered rec (Ok told) = second_told Cause reply_refused refused_fails rec (Ok told)
+second_answered rec (Err why) = second_told Cause reply_refused refused_fails rec (Err why)
 
 -- a refusal that is handed on is the same
 pub same_error : {T : Type 0} (result : Result T Cause) (why : Cause) → IsErrAnd result (λ x. x ≡ why)

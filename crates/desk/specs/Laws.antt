@@ -1,7 +1,7 @@
 -- Claims about the desk's calls, for any number of benches. Proofs: proofs/Kept, Ranged, Noted, Replies,
--- Buffers, Halved, Apart, Zeros.
+-- Buffers, Results, Halved, Apart, Zeros.
 use Rattle.rules.specs.Common.{ℕ, true, false, cond, List, length, drop, Float}
-use Rattle.std.specs.Prelude.{◌⊎◌, ◌+◌, ◌*◌, ◌≤◌, ◌<◌, ◌≡◌}
+use Rattle.std.specs.Prelude.{◌⊎◌, ◌+◌, ◌*◌, ◌≤◌, ◌<◌, ◌≡◌, Result}
 use Rattle.rules.specs.Place.{get, put}
 use Rattle.frame.specs.Written.{Written, first_in}
 use Rattle.transforms.specs.Transform.{forward_of}
@@ -14,6 +14,9 @@ use Rattle.frame.specs.Reply.{passed}
 use Rattle.frame.specs.declared.Hearing.{Hearing}
 use Rattle.frame.specs.Reply.{Reply}
 use Rattle.frame.specs.Reply.{Done, Silent, Heard, Numbered, Refused, Misread}
+use Rattle.frame.specs.Answer.{as_reply}
+use Rattle.frame.specs.declared.answer.Told.{Told}
+use Rattle.frame.specs.declared.answer.Cause.{Cause}
 use Rattle.frame.specs.declared.Way.{Way}
 use Rattle.frame.specs.declared.Way.TheVariants.{Own}
 use Rattle.halves.specs.Halves.{looked_back}
@@ -22,7 +25,8 @@ use Rattle.pieces.specs.Pieces.{frame_part, waiting_in, padded_to}
 use Rattle.desk.specs.Gate.{share_of, in_range}
 use Rattle.desk.specs.Desk.{Ask, opening, call1, call2, call2_own, call3, call4, first_half, second_half, piece}
 use Rattle.desk.specs.Desk.{resume, call_of, closed, desk}
-use Rattle.desk.specs.Answer.{Answer}
+use Rattle.desk.specs.Answer.{Answer, answer_of, answer_by, reply_by}
+use Rattle.desk.specs.Private.{told_second, after_second}
 use Rattle.desk.specs.declared.Record.{Record}
 
 -- ---- one call
@@ -92,6 +96,20 @@ Opens =
     × ((n side : ℕ) (rec : Record) (store : List Float) (way : Way) (model : List ℕ) (m : Model)
     → side < n → length store ≡ n * SHARE → in_range rec ≡ true → read_of model ≡ Good m
     → (desk n side rec store (opening way model)).answer.reply ≡ Done)
+
+-- What the second half gives is `told_second` of the reply, whatever the reason for a refusal is and however it is read
+-- as a reply that does not pass. So also where it is a number, read by `Refused`.
+abbrev pub SecondTold : Type 1
+SecondTold =
+    (E : Type 0) (reads : E → Reply) → ((why : E) → passed (reads why) ≡ false)
+    → (rec : Record) (outcome : Result Told E)
+    → answer_by reads rec (after_second rec outcome) ≡ told_second rec (reply_by reads outcome)
+
+-- And where it is one of the desk's own.
+abbrev pub SecondAnswered : Type 0
+SecondAnswered =
+    (rec : Record) (outcome : Result Told Cause)
+    → answer_of rec (after_second rec outcome) ≡ told_second rec (as_reply outcome)
 
 -- ---- request 08: accepted, a half is its two calls in turn, the second handed the record and the store as the first
 --      left them

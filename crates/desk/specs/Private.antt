@@ -1,5 +1,5 @@
 -- For the contracts of private functions.
-use Rattle.std.specs.Prelude.{◌+◌, ◌-◌, ◌≤◌, ◌≡◌, Result, IfOk}
+use Rattle.std.specs.Prelude.{◌+◌, ◌-◌, ◌≤◌, ◌≡◌, Result, Ok, Err, IfOk}
 use Rattle.rules.specs.Common.{ℕ, cond}
 use Rattle.rules.specs.Refusal.{told}
 use Rattle.rules.specs.declared.refusal.Refusal.{Refusal}
@@ -8,6 +8,8 @@ use Rattle.frame.specs.Share.{SHARE, PART}
 use Rattle.frame.specs.Reply.{passed, one_more}
 use Rattle.frame.specs.Reply.{Reply}
 use Rattle.frame.specs.Reply.{Done, Numbered, Misread}
+use Rattle.frame.specs.Answer.{reply_told}
+use Rattle.frame.specs.declared.answer.Told.{Told}
 use Rattle.frame.specs.declared.Way.{Way}
 use Rattle.desk.specs.Gate.{gate, share_of}
 use Rattle.desk.specs.Desk.{advanced, numbered, carried, started}
@@ -43,6 +45,12 @@ told_first rec reply = record { reply = reply; rec = cond (passed reply) (advanc
 
 abbrev pub told_second : Record → Reply → Answer
 told_second rec reply = record { reply = reply; rec = cond (passed reply) (numbered (advanced rec reply)) rec }
+
+-- What the second half gives, whatever the reason for a refusal is: the reason is handed on. By the law `SecondTold` it
+-- is `told_second`, however a reason is read.
+abbrev pub after_second : {E : Type 0} → Record → Result Told E → Result (Told × Record) E
+after_second rec (Ok told) = Ok (told, numbered (advanced rec (reply_told told)))
+after_second rec (Err why) = Err why
 
 -- The answers of a piece and of a resume with so many samples.
 abbrev pub told_piece : Record → ℕ → Reply → Answer

@@ -11,7 +11,7 @@ ghost use Rattle.desk.specs.Desk.{resume, record_of, holding, next_index, next_h
 ghost use Rattle.desk.specs.Desk.{advanced, numbered, carried, desk};
 ghost use Rattle.model.specs.Reading.{model_read};
 ghost use Rattle.desk.specs.Answer.{answer_of};
-ghost use Rattle.desk.specs.Private.{Admits, told_of, told_fourth, told_first, told_second, told_piece, told_resume};
+ghost use Rattle.desk.specs.Private.{Admits, told_of, told_fourth, told_first, after_second, told_piece, told_resume};
 ghost use Rattle.desk.specs.Private.{opened_of};
 ghost use Rattle.frame.specs.Answer.{as_reply, reply_told};
 ghost use Rattle.frame.specs.Effect.{Worked};
@@ -331,9 +331,10 @@ fn told_first(rec: Record, outcome: Result<Told, Cause>) -> Result<(Told, Record
     Ok((told, advanced(advanced(rec, told), told)))
 }
 
-// The answer to a second half: it tells what call 3 tells, and call 4's numbers stand in the record.
-pub fn told_second(rec: Record, outcome: Result<Told, Cause>) -> Result<(Told, Record), Cause>
-    ensures { answer_of rec result ≡ told_second rec (as_reply outcome) }
+// The answer to a second half: it tells what call 3 tells, and call 4's numbers stand in the record. A refusal is
+// handed on, whatever its reason is.
+pub fn told_second<E>(rec: Record, outcome: Result<Told, E>) -> Result<(Told, Record), E>
+    ensures { result ≡ after_second rec outcome }
 {
     let told = outcome?;
     Ok((told, numbered(advanced(rec, told))))

@@ -1,2 +1,3 @@
 mod Given
 mod Handed
+pub mod Outcomes

@@ -3,4 +3,5 @@ pub mod OfLag
 pub mod OfNetwork
 pub mod OfNumbers
 pub mod OfPitch
+pub mod Outcomes
 pub mod Private

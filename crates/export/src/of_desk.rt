@@ -305,7 +305,7 @@ pub(crate) fn tell(answer: &mut [f32], given: Result<(Told, Record), Cause>)
             heard,
             voice,
             energy,
-        } = whole::three_of(Ok(told));
+        } = whole::three_of::<Cause>(Ok(told));
         answer.copy_from_slice(&[heard, voice, energy]);
     }
 }

@@ -2,8 +2,9 @@
 ghost use Rattle.std.specs.Prelude.{◌≡◌, [], ◌∷◌, ◌+◌, ◌*◌, ◌≤◌, length};
 ghost use Rattle.rules.specs.F32.{zeros};
 ghost use Rattle.frame.specs.Written.{from, over};
-ghost use Rattle.frame.specs.Answer.{as_reply, reply_told};
+ghost use Rattle.frame.specs.Answer.{reply_told};
 ghost use Rattle.desk.specs.Surface.{heard_of};
+ghost use Rattle.whole.specs.Surface.{heard_told};
 
 use frame::{Cause, Told};
 
@@ -24,8 +25,9 @@ fn none() -> Three
     }
 }
 
-pub fn three_of(outcome: Result<Told, Cause>) -> Three
-    ensures { result.heard ∷ result.voice ∷ result.energy ∷ [] ≡ heard_of (as_reply outcome) }
+// The three numbers of an outcome. A refusal gives zeros, whatever its reason is.
+pub fn three_of<E: Drop>(outcome: Result<Told, E>) -> Three
+    ensures { result.heard ∷ result.voice ∷ result.energy ∷ [] ≡ heard_told outcome }
 {
     match outcome {
         Ok(Told::Heard { voice, energy }) => Three {
@@ -46,7 +48,7 @@ pub(crate) fn tell(answers: &mut [f32], j: usize, told: Told)
         heard,
         voice,
         energy,
-    } = three_of(Ok(told));
+    } = three_of::<Cause>(Ok(told));
     let start = 3 * j;
     answers[start] = heard;
     answers[start + 1] = voice;
